@@ -1,0 +1,22 @@
+use borrow.Author.Needs.{needs}
+use Rattle.numbers.proofs.absolute.Statement.{statement}
+use Rattle.numbers.proofs.absolute.Tie as tie
+
+is-finite-requires : tie.Need-is-finite-requires
+is-finite-requires c κs = search needs
+
+unless-requires : tie.Need-unless-requires
+unless-requires c κs = search needs
+
+absolute-requires : tie.Need-absolute-requires
+absolute-requires c κs = search needs
+
+returns : tie.Need-returns
+returns c = ?
+
+returns-2 : tie.Need-returns-2
+returns-2 c = ?
+
+pub absolute-spec : {M : Type 1} → statement M
+absolute-spec =
+    tie.close (tie.spec is-finite-requires unless-requires absolute-requires returns returns-2)

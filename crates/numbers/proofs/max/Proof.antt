@@ -1,0 +1,32 @@
+use borrow.Author.Needs.{needs}
+use Rattle.numbers.proofs.max.Statement.{statement}
+use Rattle.numbers.proofs.max.Tie as tie
+
+is-finite-requires : tie.Need-is-finite-requires
+is-finite-requires c κs = search needs
+
+is-finite-requires-2 : tie.Need-is-finite-requires-2
+is-finite-requires-2 c κs = search needs
+
+unless-requires : tie.Need-unless-requires
+unless-requires c κs = search needs
+
+max-requires : tie.Need-max-requires
+max-requires c κs = search needs
+
+returns : tie.Need-returns
+returns c = ?
+
+returns-2 : tie.Need-returns-2
+returns-2 c = ?
+
+pub max-spec : {M : Type 1} → statement M
+max-spec =
+    tie.close
+    (tie.spec
+    is-finite-requires
+    is-finite-requires-2
+    unless-requires
+    max-requires
+    returns
+    returns-2)
