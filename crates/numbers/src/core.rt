@@ -6,10 +6,12 @@ ghost use Rattle.numbers.specs.Finite.{magnitude, lesser, greater};
 pub fn absolute(x: f32) -> f32
     ensures { λ r. ⌜ r ≡ magnitude x ⌝ }
 {
-    if x < 0.0 {
+    if x == 0.0 {
+        0.0
+    } else if x < 0.0 {
         -x
     } else {
-        x + 0.0
+        x
     }
 }
 

@@ -7,49 +7,70 @@ ghost use Rattle.numbers.specs.Limits as rows;
 pub fn foot() -> Limit
     ensures { λ r. ⌜ r ≡ rows.foot ⌝ }
 {
-    Limit { from: -4.0, to: 4.0 }
+    Limit {
+        from: -4.0,
+        to: 4.0,
+    }
 }
 
 // Foot coordinates in a walk, in metres.
 pub fn walk_foot() -> Limit
     ensures { λ r. ⌜ r ≡ rows.walkFoot ⌝ }
 {
-    Limit { from: -2.0, to: 2.0 }
+    Limit {
+        from: -2.0,
+        to: 2.0,
+    }
 }
 
 // Direction x and y, step height, descent, in metres.
 pub fn direction() -> Limit
     ensures { λ r. ⌜ r ≡ rows.direction ⌝ }
 {
-    Limit { from: -1.0, to: 1.0 }
+    Limit {
+        from: -1.0,
+        to: 1.0,
+    }
 }
 
 // Rotation and coxa angle offset, in radians.
 pub fn rotation() -> Limit
     ensures { λ r. ⌜ r ≡ rows.rotation ⌝ }
 {
-    Limit { from: -4.0, to: 4.0 }
+    Limit {
+        from: -4.0,
+        to: 4.0,
+    }
 }
 
 // Femur and tibia correction, in radians.
 pub fn correction() -> Limit
     ensures { λ r. ⌜ r ≡ rows.correction ⌝ }
 {
-    Limit { from: -6.0, to: 6.0 }
+    Limit {
+        from: -6.0,
+        to: 6.0,
+    }
 }
 
 // Femur and tibia offset, in radians.
 pub fn offset() -> Limit
     ensures { λ r. ⌜ r ≡ rows.offset ⌝ }
 {
-    Limit { from: -2.0, to: 2.0 }
+    Limit {
+        from: -2.0,
+        to: 2.0,
+    }
 }
 
 // The three leg lengths, in metres.
 pub fn leg_length() -> Limit
     ensures { λ r. ⌜ r ≡ rows.legLength ⌝ }
 {
-    Limit { from: 0.00390625, to: 1.0 }
+    Limit {
+        from: 0.00390625,
+        to: 1.0,
+    }
 }
 
 // Motor angles given to forward kinematics, in radians.
@@ -70,33 +91,48 @@ pub fn max_move() -> Limit
 pub fn walk_move() -> Limit
     ensures { λ r. ⌜ r ≡ rows.walkMove ⌝ }
 {
-    Limit { from: 0.0009765625, to: 1.0 }
+    Limit {
+        from: 0.0009765625,
+        to: 1.0,
+    }
 }
 
 // Argument of sine and cosine, in radians.
 pub fn sine_argument() -> Limit
     ensures { λ r. ⌜ r ≡ rows.sineArgument ⌝ }
 {
-    Limit { from: -16.0, to: 16.0 }
+    Limit {
+        from: -16.0,
+        to: 16.0,
+    }
 }
 
 // Argument of the square root.
 pub fn root_argument() -> Limit
     ensures { λ r. ⌜ r ≡ rows.rootArgument ⌝ }
 {
-    Limit { from: 0.0, to: 65536.0 }
+    Limit {
+        from: 0.0,
+        to: 65536.0,
+    }
 }
 
 // Argument of arc cosine.
 pub fn arc_cosine_argument() -> Limit
     ensures { λ r. ⌜ r ≡ rows.arcCosineArgument ⌝ }
 {
-    Limit { from: -1.0, to: 1.0 }
+    Limit {
+        from: -1.0,
+        to: 1.0,
+    }
 }
 
 // Arguments of atan2.
 pub fn atan2_argument() -> Limit
     ensures { λ r. ⌜ r ≡ rows.atan2Argument ⌝ }
 {
-    Limit { from: -128.0, to: 128.0 }
+    Limit {
+        from: -128.0,
+        to: 128.0,
+    }
 }

@@ -1,11 +1,12 @@
+-- `numbers::core::min` meets its contract: the test that the definition chooses by is the one that the code took.
 use Rattle.numbers.proofs.core.min.Statement.{statement}
 use Rattle.numbers.proofs.core.min.Tie as tie
 
 returns : tie.Need-returns
-returns c = ?
+returns c = rw (c .if1 .taken)
 
 returns-2 : tie.Need-returns-2
-returns-2 c = ?
+returns-2 c = rw (c .if1 .left)
 
 pub min-spec : {M : Type 1} → statement M
 min-spec = tie.close (tie.spec returns returns-2)

@@ -1,0 +1,20 @@
+-- No second answer fits: where a contract says what an answer tells, and telling loses nothing, the answer is settled.
+use mathlib.Core.Path.{_≡_, refl, sym, ap, _∙_}
+use mathlib.Core.List.{List, [], _∷_}
+use Prim.Native.Nat.{ℕ}
+use lib.Ieee.{Float}
+use Rattle.numbers.specs.Told.{Told}
+use Rattle.numbers.specs.Answers.{told}
+use Rattle.numbers.specs.declared.Answer.{Answer}
+use Rattle.numbers.specs.declared.Answer.the-variants.{Value, Refused}
+
+-- the general law, over any answer type and what it tells
+pub one-answer : {A B : Type 0} (tell : A → B) (keeps : (a b : A) → tell a ≡ tell b → a ≡ b) {said : B} (a b : A) → tell a ≡ said → tell b ≡ said → a ≡ b
+one-answer tell keeps a b p q = keeps a b (p ∙ sym q)
+
+-- `told` loses nothing of an answer on numbers
+pub told-loses-nothing : (a b : Answer) → told a ≡ told b → a ≡ b
+told-loses-nothing (Value x) (Value y) e = let v : x ∷ [] ≡ y ∷ [] = ap (λ (t : Told). t .values) e in cc
+told-loses-nothing (Value x) (Refused n) e = let v : x ∷ [] ≡ [] = ap (λ (t : Told). t .values) e in cc
+told-loses-nothing (Refused n) (Value y) e = let v : [] ≡ y ∷ [] = ap (λ (t : Told). t .values) e in cc
+told-loses-nothing (Refused n) (Refused m) e = ap Refused (ap (λ (t : Told). t .number) e)
