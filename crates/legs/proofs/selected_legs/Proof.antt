@@ -1,0 +1,33 @@
+-- `legs::selected_legs` meets its contract: refused, or what the core gives.
+use Rattle.legs.specs.Select.{selectTold}
+use borrow.Author.Tests.{eq-eqb, ne-eqb}
+use borrow.Author.Needs.{needs}
+use Rattle.legs.proofs.selected_legs.Statement.{statement}
+use Rattle.legs.proofs.selected_legs.Tie as tie
+
+selected-refused-requires : tie.Need-selected-refused-requires
+selected-refused-requires c κs = search needs
+
+selected-legs-requires : tie.Need-selected-legs-requires
+selected-legs-requires c κs = search needs
+
+none-selected-requires : tie.Need-none-selected-requires
+none-selected-requires c κs = search needs
+
+returns : tie.Need-returns
+unfolding selectTold
+returns c = simp (c .selected-legs .ensures, ← c .before .before .selected-refused .ensures, eq-eqb _ 0 (c .before .if1 .taken))
+
+returns-2 : tie.Need-returns-2
+unfolding selectTold
+returns-2 c = simp (c .none-selected .ensures, ← c .before .before .selected-refused .ensures, ne-eqb _ 0 (c .before .if1 .left))
+
+pub selected-legs-spec : {M : Type 1} → statement M
+selected-legs-spec =
+    tie.close
+    (tie.spec
+    selected-refused-requires
+    selected-legs-requires
+    none-selected-requires
+    returns
+    returns-2)

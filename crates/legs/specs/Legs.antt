@@ -1,0 +1,103 @@
+-- Document 01, "Feet and masks": "Leg order of a row is left front, right front, left middle, right middle, left rear, right rear."
+-- What is said of six legs is said of `Leg` once: `feet` makes the record, `foot` reads it, `row` lists in row order, `every` and `some` ask.
+use mathlib.Core.Bool.{Bool, true, false, _&&_, _||_}
+use mathlib.Core.List.{List, [], _∷_, _++_}
+use lib.Ieee.{Float, nan, binary32, ofBits}
+use lib.ListN.{getD}
+use Rattle.numbers.specs.Door.{finite, permits}
+use Rattle.numbers.specs.declared.door.Limit.{Limit}
+use Rattle.legs.specs.declared.Point.{Point}
+use Rattle.legs.specs.declared.Feet.{Feet}
+use Rattle.legs.specs.declared.LegAngles.{LegAngles}
+use Rattle.legs.specs.declared.Joints.{Joints}
+
+pub data Leg : Type 0 where
+  leftFront rightFront leftMiddle rightMiddle leftRear rightRear : Leg
+
+-- in row order
+abbrev pub row : {A : Type 0} → (Leg → A) → List A
+row g = g leftFront ∷ g rightFront ∷ g leftMiddle ∷ g rightMiddle ∷ g leftRear ∷ g rightRear ∷ []
+
+-- whether all six pass, whether one of the six passes
+abbrev pub every : (Leg → Bool) → Bool
+every t = t leftFront && t rightFront && t leftMiddle && t rightMiddle && t leftRear && t rightRear
+
+abbrev pub some : (Leg → Bool) → Bool
+some t = t leftFront || t rightFront || t leftMiddle || t rightMiddle || t leftRear || t rightRear
+
+-- one leg of the record, and the record of six
+abbrev pub foot : Feet → Leg → Point
+foot f leftFront = f .«left_front»
+foot f rightFront = f .«right_front»
+foot f leftMiddle = f .«left_middle»
+foot f rightMiddle = f .«right_middle»
+foot f leftRear = f .«left_rear»
+foot f rightRear = f .«right_rear»
+
+abbrev pub feet : (Leg → Point) → Feet
+feet g =
+    record {
+      «left_front» = g leftFront;
+      «left_middle» = g leftMiddle;
+      «left_rear» = g leftRear;
+      «right_front» = g rightFront;
+      «right_middle» = g rightMiddle;
+      «right_rear» = g rightRear;
+    }
+
+-- the same for joint angles
+abbrev pub angles : Joints → Leg → LegAngles
+angles j leftFront = j .«left_front»
+angles j rightFront = j .«right_front»
+angles j leftMiddle = j .«left_middle»
+angles j rightMiddle = j .«right_middle»
+angles j leftRear = j .«left_rear»
+angles j rightRear = j .«right_rear»
+
+abbrev pub joints : (Leg → LegAngles) → Joints
+joints g =
+    record {
+      «left_front» = g leftFront;
+      «left_middle» = g leftMiddle;
+      «left_rear» = g leftRear;
+      «right_front» = g rightFront;
+      «right_middle» = g rightMiddle;
+      «right_rear» = g rightRear;
+    }
+
+abbrev pub origin : Point
+origin = record { x = ofBits binary32 0; y = ofBits binary32 0; z = ofBits binary32 0 }
+
+-- what a read past a row's end stands for; a row of six has none
+abbrev pub nowhere : Point
+nowhere = record { x = nan; y = nan; z = nan }
+
+-- the feet of a row
+abbrev pub fromRow : List Point → Feet
+fromRow ps =
+    record {
+      «left_front» = getD ps 0 nowhere;
+      «left_middle» = getD ps 2 nowhere;
+      «left_rear» = getD ps 4 nowhere;
+      «right_front» = getD ps 1 nowhere;
+      «right_middle» = getD ps 3 nowhere;
+      «right_rear» = getD ps 5 nowhere;
+    }
+
+-- all three coordinates pass
+unfoldable pub finitePoint : Point → Bool
+finitePoint p = finite (p .x) && finite (p .y) && finite (p .z)
+
+unfoldable pub permittedPoint : Limit → Point → Bool
+permittedPoint l p = permits l (p .x) && permits l (p .y) && permits l (p .z)
+
+-- the floats of a point, of an angle triple, and of a list of them
+abbrev pub coordinates : Point → List Float
+coordinates p = p .x ∷ p .y ∷ p .z ∷ []
+
+abbrev pub jointsOf : LegAngles → List Float
+jointsOf a = a .coxa ∷ a .femur ∷ a .tibia ∷ []
+
+abbrev pub values : {A : Type 0} → (A → List Float) → List A → List Float
+values g [] = []
+values g (a ∷ as') = g a ++ values g as'

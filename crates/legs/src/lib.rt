@@ -1,0 +1,142 @@
+// Six legs: foot points and joint angles by leg, masks of legs, selection and merge (source 003).
+// Lengths are metres, angles radians.
+use numbers::door;
+ghost use mathlib.Core.Path.{_≡_};
+ghost use Rattle.legs.specs.Answers.{told, toldSelected};
+ghost use Rattle.legs.specs.Legs.{row, foot, fromRow};
+ghost use Rattle.legs.specs.Merge.{mergeRefusal, mergeTold};
+ghost use Rattle.legs.specs.Select.{selectRefusal, selectTold};
+
+pub mod core;
+pub mod flags;
+
+pub struct Point {
+    pub x: f32,
+    pub y: f32,
+    pub z: f32,
+}
+
+// Six foot points.
+pub struct Feet {
+    pub left_front: Point,
+    pub left_middle: Point,
+    pub left_rear: Point,
+    pub right_front: Point,
+    pub right_middle: Point,
+    pub right_rear: Point,
+}
+
+// The three joint angles of a leg.
+pub struct LegAngles {
+    pub coxa: f32,
+    pub femur: f32,
+    pub tibia: f32,
+}
+
+// Eighteen joint angles.
+pub struct Joints {
+    pub left_front: LegAngles,
+    pub left_middle: LegAngles,
+    pub left_rear: LegAngles,
+    pub right_front: LegAngles,
+    pub right_middle: LegAngles,
+    pub right_rear: LegAngles,
+}
+
+// What an operation on feet answers: six feet, or why not.
+pub enum Planned {
+    Feet(Feet),
+    Refused(u32),
+}
+
+// A row of six with a length, and why it is refused (0: it is not). Unused places hold +0.
+pub struct Selected {
+    pub refused: u32,
+    pub len: usize,
+    pub row: [Point; 6],
+}
+
+// The feet as a row: left front, right front, left middle, right middle, left rear, right rear.
+pub fn as_legs(feet: Feet) -> [Point; 6]
+    ensures { λ r. ⌜ r ≡ row (foot feet) ⌝ }
+{
+    let left_front = feet.left_front;
+    let right_front = feet.right_front;
+    let left_middle = feet.left_middle;
+    let right_middle = feet.right_middle;
+    let left_rear = feet.left_rear;
+    let right_rear = feet.right_rear;
+    [
+        left_front,
+        right_front,
+        left_middle,
+        right_middle,
+        left_rear,
+        right_rear,
+    ]
+}
+
+// The feet of such a row.
+pub fn from_legs(legs: [Point; 6]) -> Feet
+    ensures { λ r. ⌜ r ≡ fromRow legs ⌝ }
+{
+    Feet {
+        left_front: legs[0],
+        left_middle: legs[2],
+        left_rear: legs[4],
+        right_front: legs[1],
+        right_middle: legs[3],
+        right_rear: legs[5],
+    }
+}
+
+// Why a merge is refused: the lowest number that applies, or 0.
+pub fn merge_refused(a: Feet, b: Feet, mask: u32) -> u32
+    ensures { λ r. ⌜ r ≡ mergeRefusal a b mask ⌝ }
+{
+    let limit = numbers::limits::foot();
+    let finite = core::feet_finite(a) & core::feet_finite(b);
+    let permitted = core::feet_permitted(limit, a) & core::feet_permitted(limit, b);
+    door::either(
+        door::unless(finite, 1),
+        door::either(door::unless(permitted, 2), core::mask_refused(mask)),
+    )
+}
+
+// Exactly the flagged legs from b, the others from a.
+pub fn merge_with(a: Feet, b: Feet, mask: u32) -> Planned
+    ensures { λ r. ⌜ told r ≡ mergeTold a b mask ⌝ }
+{
+    let n = merge_refused(a, b, mask);
+    if n == 0 {
+        Planned::Feet(core::merge_with(a, b, mask))
+    } else {
+        Planned::Refused(n)
+    }
+}
+
+// Why a selection is refused: the lowest number that applies, or 0.
+pub fn selected_refused(feet: Feet, mask: u32) -> u32
+    ensures { λ r. ⌜ r ≡ selectRefusal feet mask ⌝ }
+{
+    let limit = numbers::limits::foot();
+    door::either(
+        door::unless(core::feet_finite(feet), 1),
+        door::either(
+            door::unless(core::feet_permitted(limit, feet), 2),
+            core::mask_refused(mask),
+        ),
+    )
+}
+
+// The flagged legs' points, in row order.
+pub fn selected_legs(feet: Feet, mask: u32) -> Selected
+    ensures { λ r. ⌜ toldSelected r ≡ selectTold feet mask ⌝ }
+{
+    let n = selected_refused(feet, mask);
+    if n == 0 {
+        core::selected_legs(feet, mask)
+    } else {
+        core::none_selected(n)
+    }
+}
