@@ -1,0 +1,3 @@
+fn main() {
+    check::expect(hopper::legs::flags::LRL_TRIPOD == 21);
+}
