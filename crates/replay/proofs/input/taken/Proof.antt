@@ -1,0 +1,52 @@
+-- `replay::input::taken` is safe and ends: the place goes up to the end of the chunk, and the line keeps its length.
+use lib.ListN.{length}
+use mathlib.Core.Path.{_≡_}
+use Prim.Native.Nat.{_≤_, _-_}
+use borrow.Author.Needs.{needs}
+use Rattle.replay.proofs.input.taken.Statement.{statement}
+use Rattle.replay.proofs.input.taken.Tie as tie
+
+abbrev Inv-loop : tie.InvT-loop
+Inv-loop line₀ s r₀ i₀ line r i = (i ≤ length s) × (length line ≡ length line₀)
+
+abbrev μ-loop : tie.MeasureT-loop
+μ-loop line₀ s r₀ i₀ line r i = length s - i
+
+loop-holds : tie.Need-loop-holds Inv-loop μ-loop
+loop-holds c = search needs
+
+shared-slice-read-stepped : tie.Need-shared-slice-read-stepped Inv-loop μ-loop
+shared-slice-read-stepped c = search needs
+
+stepped-requires : tie.Need-stepped-requires Inv-loop μ-loop
+stepped-requires c κs = search needs
+
+add-i : tie.Need-add-i Inv-loop μ-loop
+add-i c = search needs
+
+loop-less : tie.Need-loop-less Inv-loop μ-loop
+loop-less c = search needs
+
+loop-again : tie.Need-loop-again Inv-loop μ-loop
+loop-again c = search needs
+
+same-length : tie.Need-same-length Inv-loop μ-loop
+same-length c = search needs
+
+returns : tie.Need-returns Inv-loop μ-loop
+returns c = search needs
+
+pub taken-spec : {M : Type 1} → statement M
+taken-spec =
+    tie.close
+    (tie.spec
+    Inv-loop
+    μ-loop
+    loop-holds
+    shared-slice-read-stepped
+    stepped-requires
+    add-i
+    loop-less
+    loop-again
+    same-length
+    returns)

@@ -1,0 +1,12 @@
+// Tries every public entry from a line of text: one operation a line in, one answer a line out.
+// The lines are described in docs/OPERATIONS.md.
+mod answers;
+mod fields;
+mod input;
+mod legs_lines;
+mod numbers_lines;
+mod operations;
+
+fn main() {
+    input::run();
+}
