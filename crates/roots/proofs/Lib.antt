@@ -1,0 +1,7 @@
+mod Squares
+mod Powers
+mod Nearest
+mod Exists
+mod Closest
+mod Arcs
+mod Given
