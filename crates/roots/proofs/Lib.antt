@@ -5,3 +5,4 @@ mod Exists
 mod Closest
 mod Arcs
 mod Given
+pub mod Laws
