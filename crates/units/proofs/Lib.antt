@@ -8,6 +8,8 @@ pub mod Order
 pub mod Errors
 pub mod Bounds
 pub mod Patterns
+pub mod Above
 pub mod Digits
 pub mod Door
 pub mod Table
+pub mod Tables

@@ -1,0 +1,16 @@
+// The root behind the door, total on every value, for the rooms above.
+use crate::digits;
+ghost use mathlib.Core.Path.{_≡_};
+ghost use Rattle.roots.specs.Root.{squareRoot};
+
+// The f32 nearest to the root of x, where x is finite and above zero. Any other x comes back as it
+// is: a zero is its own root, and what is negative, infinite or NaN has none here.
+pub fn square_root(x: f32) -> f32
+    ensures { λ r. ⌜ r ≡ squareRoot x ⌝ }
+{
+    if (0.0 < x) & (x < f32::from_bits(0x7f80_0000)) {
+        f32::from_bits(digits::root_bits(f32::to_bits(x)))
+    } else {
+        x
+    }
+}

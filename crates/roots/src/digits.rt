@@ -1,0 +1,80 @@
+// The root of a bit pattern by whole numbers: no float is computed with.
+use crate::seed;
+ghost use mathlib.Core.Path.{_≡_};
+ghost use Prim.Native.Nat.{_+_, _*_, _^_, _≤_, _<_};
+ghost use lib.Ieee.{binary32, ofBits};
+ghost use Rattle.units.specs.Patterns.{val};
+ghost use Rattle.roots.specs.How.{Lifted, Even, nearestRoot};
+
+// A number above zero as 24 digits m and a power of two p.
+pub struct Parts {
+    pub m: u64,
+    pub p: u32,
+}
+
+// A subnormal number's digits, moved up until there are 24.
+fn lift(t: u32) -> Parts
+    requires { ⌜ (0 < t) × (t < 8388608) ⌝ }
+    ensures { λ r. ⌜ Lifted t (r .m) (r .p) ⌝ }
+{
+    let z = u32::leading_zeros(t) - 8;
+    Parts {
+        m: (t << z) as u64,
+        p: 149 - z,
+    }
+}
+
+// The number of a bit pattern, as 24 digits and a power of two.
+fn spread(b: u32) -> Parts
+    requires { ⌜ (0 < b) × (b < 2139095040) ⌝ }
+    ensures { λ r. ⌜ Lifted (val b) (r .m) (r .p) ⌝ }
+{
+    let e = b / 8388608;
+    let t = b % 8388608;
+    if e == 0 {
+        lift(t)
+    } else {
+        Parts {
+            m: t as u64 + 8388608,
+            p: 148 + e,
+        }
+    }
+}
+
+// What the root is taken of: the digits, with an even power of two split off.
+fn radicand(m: u64, p: u32) -> u64
+    requires { ⌜ (8388608 ≤ m) × (m < 16777216) ⌝ }
+    ensures { λ r. ⌜ Even m p r ⌝ }
+{
+    if p % 2 == 1 {
+        m * 8388608
+    } else {
+        m * 16777216
+    }
+}
+
+// The whole number nearest to the root of n, from any guess.
+fn settle(n: u64, guess: u64) -> u64
+    requires { ⌜ (0 < n) × (n < 2 ^ 48) × (guess < 2 ^ 26) ⌝ }
+    ensures { λ r. ⌜ (n ≤ r * r + r) × (r * r < n + r) ⌝ }
+{
+    let mut q = guess;
+    while q * q + q < n {
+        q += 1;
+    }
+    while n + q <= q * q {
+        q -= 1;
+    }
+    q
+}
+
+// The root's bit pattern from a bit pattern that is a finite number's above zero.
+pub fn root_bits(b: u32) -> u32
+    requires { ⌜ (0 < b) × (b < 2139095040) ⌝ }
+    ensures { λ r. ⌜ (r < 2139095040) × (ofBits binary32 r ≡ nearestRoot (val b)) ⌝ }
+{
+    let x = spread(b);
+    let n = radicand(x.m, x.p);
+    let q = settle(n, seed::guess(x.m, x.p));
+    (x.p - 23) / 2 * 8388608 + q as u32
+}
