@@ -1,0 +1,26 @@
+-- `moves::core::next_feet` meets its contract, by the step that it makes.
+use Rattle.moves.specs.Iterators.{nextFeet}
+use borrow.Author.Needs.{needs}
+use Rattle.moves.proofs.core.next_feet.Statement.{statement}
+use Rattle.moves.proofs.core.next_feet.Tie as tie
+
+move-feet-towards-requires : tie.Need-move-feet-towards-requires
+move-feet-towards-requires c κs = search needs
+
+enum-known-step : tie.Need-enum-known-step
+enum-known-step c = search needs
+
+enum-told : tie.Need-enum-told
+enum-told c = search needs
+
+returns : tie.Need-returns
+unfolding nextFeet
+returns c = simp (← c .before .before .before .move-feet-towards .ensures, c .before .step .given .1)
+
+returns-2 : tie.Need-returns-2
+unfolding nextFeet
+returns-2 c = simp (← c .before .before .move-feet-towards .ensures, c .enum-told .given .1)
+
+pub next-feet-spec : {M : Type 1} → statement M
+next-feet-spec =
+    tie.close (tie.spec move-feet-towards-requires enum-known-step enum-told returns returns-2)

@@ -1,0 +1,26 @@
+-- `moves::core::next_point` meets its contract, by the step that it makes.
+use Rattle.moves.specs.Iterators.{nextPoint}
+use borrow.Author.Needs.{needs}
+use Rattle.moves.proofs.core.next_point.Statement.{statement}
+use Rattle.moves.proofs.core.next_point.Tie as tie
+
+move-towards-requires : tie.Need-move-towards-requires
+move-towards-requires c κs = search needs
+
+enum-known-step : tie.Need-enum-known-step
+enum-known-step c = search needs
+
+enum-told : tie.Need-enum-told
+enum-told c = search needs
+
+returns : tie.Need-returns
+unfolding nextPoint
+returns c = simp (← c .before .before .before .move-towards .ensures, c .before .step .given .1)
+
+returns-2 : tie.Need-returns-2
+unfolding nextPoint
+returns-2 c = simp (← c .before .before .move-towards .ensures, c .enum-told .given .1)
+
+pub next-point-spec : {M : Type 1} → statement M
+next-point-spec =
+    tie.close (tie.spec move-towards-requires enum-known-step enum-told returns returns-2)

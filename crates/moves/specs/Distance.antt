@@ -1,0 +1,45 @@
+-- Document 01, "Moving towards" and "Steps": equality of points, distances, and the longest of six.
+use mathlib.Core.Bool.{Bool, _&&_}
+use mathlib.Core.List.{List, [], _∷_}
+use lib.Ieee.{Float, nan, binary32, add, sub, mul, eq}
+use Rattle.numbers.specs.Finite.{greater}
+use Rattle.roots.specs.Root.{squareRoot}
+use Rattle.legs.specs.Legs.{Leg, row, foot}
+use Rattle.legs.specs.declared.Point.{Point}
+use Rattle.legs.specs.declared.Feet.{Feet}
+
+-- "points equal in every component as numbers"
+unfoldable pub same : Point → Point → Bool
+same a b = eq (a .x) (b .x) && eq (a .y) (b .y) && eq (a .z) (b .z)
+
+abbrev pub square : Float → Float
+square x = mul binary32 x x
+
+-- the square of the way from one number to another
+abbrev pub apart² : Float → Float → Float
+apart² a b = square (sub binary32 b a)
+
+-- "the distance is the root of x², y², z² summed in that order"
+unfoldable pub distance : Point → Point → Float
+distance a b = squareRoot (add binary32 (add binary32 (apart² (a .x) (b .x)) (apart² (a .y) (b .y))) (apart² (a .z) (b .z)))
+
+-- "taken in x and y only"
+unfoldable pub horizontalDistance : Point → Point → Float
+horizontalDistance a b = squareRoot (add binary32 (apart² (a .x) (b .x)) (apart² (a .y) (b .y)))
+
+-- the largest of a row of numbers; of none it is NaN, from which the source's fold begins
+abbrev pub largestFrom : Float → List Float → Float
+largestFrom x [] = x
+largestFrom x (y ∷ ys) = largestFrom (greater x y) ys
+
+abbrev pub largest : List Float → Float
+largest [] = nan
+largest (x ∷ xs) = largestFrom x xs
+
+-- "`longest_distance` of 001 is the largest of the six in x, y and z"
+unfoldable pub longestDistance : Feet → Feet → Float
+longestDistance a b = largest (row (λ l. distance (foot a l) (foot b l)))
+
+-- "longest means the largest of the six distances taken in x and y only, as in 000"
+unfoldable pub maxHorizontalDistance : Feet → Feet → Float
+maxHorizontalDistance a b = largest (row (λ l. horizontalDistance (foot a l) (foot b l)))

@@ -1,0 +1,6 @@
+pub mod Distance
+pub mod Moving
+pub mod Answers
+pub mod Refusals
+pub mod Entries
+pub mod Iterators

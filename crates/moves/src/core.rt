@@ -1,0 +1,196 @@
+// The operations behind the door, total on every value, for the rooms above.
+use crate::FeetStep;
+use crate::MoveStep;
+use crate::MovingFeet;
+use crate::MovingPoint;
+use crate::NextFeet;
+use crate::NextPoint;
+use legs::Feet;
+use legs::Point;
+ghost use mathlib.Core.Path.{_≡_};
+ghost use Rattle.numbers.specs.Told.{choose};
+ghost use Rattle.moves.specs.Distance.{same, distance, horizontalDistance, longestDistance, maxHorizontalDistance};
+ghost use Rattle.moves.specs.Moving.{along, nearer, moveTowards, moveVectorTowards, pointOf, hasMoved, moveFeetTowards};
+ghost use Rattle.moves.specs.Iterators.{nextPoint, nextFeet};
+
+// Whether two points are equal in every component, as numbers.
+pub fn is_same(a: Point, b: Point) -> bool
+    ensures { λ r. ⌜ r ≡ same a b ⌝ }
+{
+    (a.x == b.x) & (a.y == b.y) & (a.z == b.z)
+}
+
+// The root of x², y², z² summed in that order, of the way from a to b.
+pub fn distance(a: Point, b: Point) -> f32
+    ensures { λ r. ⌜ r ≡ distance a b ⌝ }
+{
+    let x = b.x - a.x;
+    let y = b.y - a.y;
+    let z = b.z - a.z;
+    roots::core::square_root(x * x + y * y + z * z)
+}
+
+// The same in x and y only.
+pub fn horizontal_distance(a: Point, b: Point) -> f32
+    ensures { λ r. ⌜ r ≡ horizontalDistance a b ⌝ }
+{
+    let x = b.x - a.x;
+    let y = b.y - a.y;
+    roots::core::square_root(x * x + y * y)
+}
+
+// max_move of the way to the target, where d is the whole of it.
+fn along(d: f32, max_move: f32, last: Point, target: Point) -> Point
+    ensures { λ r. ⌜ r ≡ along d «max_move» last target ⌝ }
+{
+    Point {
+        x: last.x + ((target.x - last.x) / d) * max_move,
+        y: last.y + ((target.y - last.y) / d) * max_move,
+        z: last.z + ((target.z - last.z) / d) * max_move,
+    }
+}
+
+// The step of a point that is d away and not at its target.
+fn nearer(d: f32, last: Point, target: Point, max_move: f32) -> Point
+    ensures { λ r. ⌜ r ≡ nearer d last target «max_move» ⌝ }
+{
+    if d <= max_move {
+        target
+    } else {
+        along(d, max_move, last, target)
+    }
+}
+
+// One step of at most max_move towards the target.
+pub fn move_towards(last: Point, target: Point, max_move: f32) -> MoveStep
+    ensures { λ r. ⌜ r ≡ moveTowards last target «max_move» ⌝ }
+{
+    if is_same(last, target) {
+        MoveStep::Arrived(target)
+    } else {
+        MoveStep::Moved(nearer(distance(last, target), last, target, max_move))
+    }
+}
+
+// The same for a vector: its distance is that of the way back.
+pub fn move_vector_towards(last: Point, target: Point, max_move: f32) -> MoveStep
+    ensures { λ r. ⌜ r ≡ moveVectorTowards last target «max_move» ⌝ }
+{
+    if is_same(last, target) {
+        MoveStep::Arrived(target)
+    } else {
+        MoveStep::Moved(nearer(distance(target, last), last, target, max_move))
+    }
+}
+
+// The point of a step.
+pub fn point_of(s: MoveStep) -> Point
+    ensures { λ r. ⌜ r ≡ pointOf s ⌝ }
+{
+    match s {
+        MoveStep::Moved(p) => p,
+        MoveStep::Arrived(p) => p,
+    }
+}
+
+// Whether a step moved.
+pub fn has_moved(s: MoveStep) -> bool
+    ensures { λ r. ⌜ r ≡ hasMoved s ⌝ }
+{
+    match s {
+        MoveStep::Moved(_) => true,
+        MoveStep::Arrived(_) => false,
+    }
+}
+
+// The six feet of a step, with the flag that they share.
+fn shared(moved: bool, feet: Feet) -> FeetStep
+    ensures { λ r. ⌜ r ≡ choose moved (FeetStep.Moved feet) (FeetStep.Arrived feet) ⌝ }
+{
+    if moved {
+        FeetStep::Moved(feet)
+    } else {
+        FeetStep::Arrived(feet)
+    }
+}
+
+// Six feet move as six single ones.
+pub fn move_feet_towards(last: Feet, target: Feet, max_move: f32) -> FeetStep
+    ensures { λ r. ⌜ r ≡ moveFeetTowards last target «max_move» ⌝ }
+{
+    let lf = move_towards(last.left_front, target.left_front, max_move);
+    let lm = move_towards(last.left_middle, target.left_middle, max_move);
+    let lr = move_towards(last.left_rear, target.left_rear, max_move);
+    let rf = move_towards(last.right_front, target.right_front, max_move);
+    let rm = move_towards(last.right_middle, target.right_middle, max_move);
+    let rr = move_towards(last.right_rear, target.right_rear, max_move);
+    let moved = has_moved(lf)
+        | has_moved(rf)
+        | has_moved(lm)
+        | has_moved(rm)
+        | has_moved(lr)
+        | has_moved(rr);
+    let feet = Feet {
+        left_front: point_of(lf),
+        left_middle: point_of(lm),
+        left_rear: point_of(lr),
+        right_front: point_of(rf),
+        right_middle: point_of(rm),
+        right_rear: point_of(rr),
+    };
+    shared(moved, feet)
+}
+
+// One step more of a point on its way; the state after remembers where it is.
+pub fn next_point(s: MovingPoint) -> NextPoint
+    ensures { λ r. ⌜ r ≡ nextPoint s ⌝ }
+{
+    let step = move_towards(s.last, s.target, s.max_move);
+    match step {
+        MoveStep::Moved(p) => {
+            let mut after = s;
+            after.last = p;
+            NextPoint::Moved(p, after)
+        }
+        MoveStep::Arrived(_) => NextPoint::Done,
+    }
+}
+
+// One step more of six feet on their way.
+pub fn next_feet(s: MovingFeet) -> NextFeet
+    ensures { λ r. ⌜ r ≡ nextFeet s ⌝ }
+{
+    let step = move_feet_towards(s.last, s.target, s.max_move);
+    match step {
+        FeetStep::Moved(f) => {
+            let mut after = s;
+            after.last = f;
+            NextFeet::Moved(f, after)
+        }
+        FeetStep::Arrived(_) => NextFeet::Done,
+    }
+}
+
+// The largest of the six distances in x, y and z.
+pub fn longest_distance(a: Feet, b: Feet) -> f32
+    ensures { λ r. ⌜ r ≡ longestDistance a b ⌝ }
+{
+    let d = distance(a.left_front, b.left_front);
+    let d = numbers::core::max(d, distance(a.right_front, b.right_front));
+    let d = numbers::core::max(d, distance(a.left_middle, b.left_middle));
+    let d = numbers::core::max(d, distance(a.right_middle, b.right_middle));
+    let d = numbers::core::max(d, distance(a.left_rear, b.left_rear));
+    numbers::core::max(d, distance(a.right_rear, b.right_rear))
+}
+
+// The largest of the six distances in x and y only.
+pub fn max_horizontal_distance(a: Feet, b: Feet) -> f32
+    ensures { λ r. ⌜ r ≡ maxHorizontalDistance a b ⌝ }
+{
+    let d = horizontal_distance(a.left_front, b.left_front);
+    let d = numbers::core::max(d, horizontal_distance(a.right_front, b.right_front));
+    let d = numbers::core::max(d, horizontal_distance(a.left_middle, b.left_middle));
+    let d = numbers::core::max(d, horizontal_distance(a.right_middle, b.right_middle));
+    let d = numbers::core::max(d, horizontal_distance(a.left_rear, b.left_rear));
+    numbers::core::max(d, horizontal_distance(a.right_rear, b.right_rear))
+}
