@@ -1,0 +1,3 @@
+mod Halves
+pub mod Laws
+pub mod OneAnswer

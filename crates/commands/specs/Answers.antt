@@ -1,0 +1,35 @@
+-- Document 01's number and values for each case of an answer on commands.
+use Prim.Native.Nat.{ℕ}
+use mathlib.Core.Bool.{Bool}
+use mathlib.Core.List.{List, [], _∷_}
+use lib.Ieee.{Float}
+use Rattle.numbers.specs.Told.{Told, refused, given, choose}
+use Rattle.commands.specs.declared.MoveCommand.{MoveCommand}
+use Rattle.commands.specs.declared.Commanded.{Commanded}
+use Rattle.commands.specs.declared.Commanded.the-variants.{Command, Refused}
+use Rattle.commands.specs.declared.ShouldMove.{ShouldMove}
+use Rattle.commands.specs.declared.ShouldMove.the-variants.{Yes, No, Refused as RefusedToSay}
+
+-- a flag is 1 or 0
+abbrev pub mark : Bool → ℕ
+mark b = choose b 1 0
+
+-- a command's marks: step time in seconds and nanoseconds, the flag; its values: direction, rotation, step height
+abbrev pub commandMarks : MoveCommand → List ℕ
+commandMarks c = c .«step_time» .seconds ∷ c .«step_time» .nanoseconds ∷ mark (c .«aggressive_leg_lift») ∷ []
+
+abbrev pub commandValues : MoveCommand → List Float
+commandValues c = c .«direction_x» ∷ c .«direction_y» ∷ c .rotation ∷ c .«step_height» ∷ []
+
+abbrev pub givenCommand : MoveCommand → Told
+givenCommand c = given (commandMarks c) (commandValues c)
+
+abbrev pub told : Commanded → Told
+told (Command c) = givenCommand c
+told (Refused n) = refused n
+
+-- yes is 1, no is 0
+abbrev pub toldShould : ShouldMove → Told
+toldShould Yes = given (1 ∷ []) []
+toldShould No = given (0 ∷ []) []
+toldShould (RefusedToSay n) = refused n

@@ -1,0 +1,4 @@
+pub mod Times
+pub mod Tripods
+pub mod Answers
+pub mod Command
