@@ -1,6 +1,7 @@
--- The definitions that the contracts on legs cite.
-pub use Rattle.house.specs.Legs
-pub use Rattle.house.specs.Masks
-pub use Rattle.house.specs.LegAnswers as Answers
-pub use Rattle.house.specs.Merge
-pub use Rattle.house.specs.Select
+-- The definitions that the contracts on legs cite, room by room.
+pub use Rattle.house.specs.LegsLegs
+pub use Rattle.house.specs.LegsMasks
+pub use Rattle.house.specs.LegsAnswers
+pub use Rattle.house.specs.LegsMerge
+pub use Rattle.house.specs.LegsSelect
+pub use Rattle.house.specs.LegsUpdate

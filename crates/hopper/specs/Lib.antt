@@ -1,2 +1,4 @@
 pub mod Numbers
 pub mod Legs
+pub mod FootMoves
+pub mod Steps

@@ -1,7 +1,9 @@
--- The definitions that the contracts on numbers cite.
-pub use Rattle.house.specs.Told
-pub use Rattle.house.specs.Door
-pub use Rattle.house.specs.Limits
-pub use Rattle.house.specs.NumberAnswers as Answers
-pub use Rattle.house.specs.Finite
-pub use Rattle.house.specs.Patterns
+-- The definitions that the contracts on numbers cite, room by room.
+pub use Rattle.house.specs.NumbersTold
+pub use Rattle.house.specs.NumbersDoor
+pub use Rattle.house.specs.NumbersLimits
+pub use Rattle.house.specs.NumbersAnswers
+pub use Rattle.house.specs.NumbersFinite
+pub use Rattle.house.specs.NumbersPatterns
+pub use Rattle.house.specs.RootsHow
+pub use Rattle.house.specs.RootsRoot

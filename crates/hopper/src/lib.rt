@@ -1,6 +1,6 @@
 // The face: every public entry and type, under document 01's module names. No code.
 
-// Absolute value, min, max; floats from and to their bits.
+// Square root, sine, cosine, arc cosine, atan2, absolute value, min, max; floats from and to their bits.
 pub mod numbers {
     pub use house::Answer;
     pub use house::Pattern;
@@ -9,6 +9,7 @@ pub mod numbers {
     pub use house::max;
     pub use house::min;
     pub use house::pattern_of;
+    pub use house::square_root;
 }
 
 // Foot points and joint angles by leg, masks, selection, merge.
@@ -24,4 +25,35 @@ pub mod legs {
     pub use house::from_legs;
     pub use house::merge_with;
     pub use house::selected_legs;
+}
+
+// One step towards a target, states that step, the walk that ends, the longest distance.
+pub mod foot_moves {
+    pub use house::FeetIter;
+    pub use house::FeetStep;
+    pub use house::FeetTowards;
+    pub use house::MoveStep;
+    pub use house::MovingFeet;
+    pub use house::MovingPoint;
+    pub use house::NextFeet;
+    pub use house::NextPoint;
+    pub use house::PointIter;
+    pub use house::Towards;
+    pub use house::feet_to_move_towards_iter;
+    pub use house::longest_distance;
+    pub use house::move_feet_towards;
+    pub use house::move_towards;
+    pub use house::move_vector_towards;
+    pub use house::to_move_towards_iter;
+}
+
+// Move commands, tripods, times; the three step iterators; the planner.
+pub mod steps {
+    pub use house::Commanded;
+    pub use house::DEFAULT_STEP_DISTANCE;
+    pub use house::DEFAULT_STEP_HEIGHT;
+    pub use house::MoveCommand;
+    pub use house::ShouldMove;
+    pub use house::Time;
+    pub use house::Tripod;
 }

@@ -1,11 +1,24 @@
-pub use Rattle.numbers.specs.Told
-pub use Rattle.numbers.specs.Door
-pub use Rattle.numbers.specs.Limits
-pub use Rattle.numbers.specs.Answers as NumberAnswers
-pub use Rattle.numbers.specs.Finite
-pub use Rattle.numbers.specs.Patterns
-pub use Rattle.legs.specs.Legs
-pub use Rattle.legs.specs.Masks
-pub use Rattle.legs.specs.Answers as LegAnswers
-pub use Rattle.legs.specs.Merge
-pub use Rattle.legs.specs.Select
+pub use Rattle.numbers.specs.Told as NumbersTold
+pub use Rattle.numbers.specs.Door as NumbersDoor
+pub use Rattle.numbers.specs.Limits as NumbersLimits
+pub use Rattle.numbers.specs.Answers as NumbersAnswers
+pub use Rattle.numbers.specs.Finite as NumbersFinite
+pub use Rattle.numbers.specs.Patterns as NumbersPatterns
+pub use Rattle.roots.specs.How as RootsHow
+pub use Rattle.roots.specs.Root as RootsRoot
+pub use Rattle.legs.specs.Legs as LegsLegs
+pub use Rattle.legs.specs.Masks as LegsMasks
+pub use Rattle.legs.specs.Answers as LegsAnswers
+pub use Rattle.legs.specs.Merge as LegsMerge
+pub use Rattle.legs.specs.Select as LegsSelect
+pub use Rattle.legs.specs.Update as LegsUpdate
+pub use Rattle.moves.specs.Distance as MovesDistance
+pub use Rattle.moves.specs.Moving as MovesMoving
+pub use Rattle.moves.specs.Answers as MovesAnswers
+pub use Rattle.moves.specs.Refusals as MovesRefusals
+pub use Rattle.moves.specs.Entries as MovesEntries
+pub use Rattle.moves.specs.Iterators as MovesIterators
+pub use Rattle.commands.specs.Times as CommandsTimes
+pub use Rattle.commands.specs.Tripods as CommandsTripods
+pub use Rattle.commands.specs.Answers as CommandsAnswers
+pub use Rattle.commands.specs.Command as CommandsCommand

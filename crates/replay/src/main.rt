@@ -4,8 +4,11 @@ mod answers;
 mod fields;
 mod input;
 mod legs_lines;
+mod moves_lines;
+mod names;
 mod numbers_lines;
 mod operations;
+mod steps_lines;
 
 fn main() {
     input::run();

@@ -2,13 +2,15 @@
 use crate::answers;
 use crate::answers::Out;
 use crate::fields;
+use crate::names;
 
 // One float in.
 pub fn one(s: &[u8], name: u64) -> Out {
     let x = fields::float(s, fields::first(s));
     if fields::done(s, x.next) {
         match name {
-            0x61_6273 => answers::number(hopper::numbers::absolute(x.value)),
+            names::ABS => answers::number(hopper::numbers::absolute(x.value)),
+            names::SQRT => answers::number(hopper::numbers::square_root(x.value)),
             _ => answers::unreadable(),
         }
     } else {
@@ -22,8 +24,8 @@ pub fn two(s: &[u8], name: u64) -> Out {
     let y = fields::float(s, x.next);
     if fields::done(s, y.next) {
         match name {
-            0x6d_696e => answers::number(hopper::numbers::min(x.value, y.value)),
-            0x6d_6178 => answers::number(hopper::numbers::max(x.value, y.value)),
+            names::MIN => answers::number(hopper::numbers::min(x.value, y.value)),
+            names::MAX => answers::number(hopper::numbers::max(x.value, y.value)),
             _ => answers::unreadable(),
         }
     } else {
