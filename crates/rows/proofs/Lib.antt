@@ -1,0 +1,5 @@
+pub mod Counting
+pub mod Reading
+pub mod Answered
+mod Pieces
+mod Lending
