@@ -86,3 +86,19 @@ given-back : (f : Feet) (m : ℕ) (bs : List Leg) (l : Leg) (as' : List Leg) (k 
     → choose t (getD (among f m (bs ++ l ∷ as')) k nowhere) (foot f l) ≡ foot f l
 given-back f m bs l as' k true h e = ap (λ (j : ℕ). getD (among f m (bs ++ l ∷ as')) j nowhere) e ∙ stands f m bs l as' h
 given-back f m bs l as' k false h e = refl
+
+-- what was selected, put back, changes nothing
+pub selected-then-updated : (f : Feet) (m : ℕ) → updated f (named f m) m ≡ f
+unfolding updated named
+selected-then-updated f m =
+    simp (
+      back [] leftFront (rightFront ∷ leftMiddle ∷ rightMiddle ∷ leftRear ∷ rightRear ∷ []) (omega arith),
+      back (leftFront ∷ []) rightFront (leftMiddle ∷ rightMiddle ∷ leftRear ∷ rightRear ∷ []) (omega arith),
+      back (leftFront ∷ rightFront ∷ []) leftMiddle (rightMiddle ∷ leftRear ∷ rightRear ∷ []) (omega arith),
+      back (leftFront ∷ rightFront ∷ leftMiddle ∷ []) rightMiddle (leftRear ∷ rightRear ∷ []) (omega arith),
+      back (leftFront ∷ rightFront ∷ leftMiddle ∷ rightMiddle ∷ []) leftRear (rightRear ∷ []) (omega arith),
+      back (leftFront ∷ rightFront ∷ leftMiddle ∷ rightMiddle ∷ leftRear ∷ []) rightRear [] (omega arith),
+    )
+  where
+    back : (bs : List Leg) (l : Leg) (as' : List Leg) → place m l ≡ count m bs → choose (has m l) (getD (among f m (bs ++ l ∷ as')) (place m l) nowhere) (foot f l) ≡ foot f l
+    back bs l as' e = given-back f m bs l as' (place m l) (has m l) refl e

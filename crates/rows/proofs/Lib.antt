@@ -1,5 +1,6 @@
 pub mod Counting
-pub mod Reading
 pub mod Answered
+mod Reading
 mod Pieces
 mod Lending
+mod Cases
