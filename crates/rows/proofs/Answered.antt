@@ -1,0 +1,65 @@
+-- The answer by what is remembered of a row is the answer over the row: an update that is not refused reads only points that were lent.
+use mathlib.Core.Path.{_≡_, refl, sym, ap, _∙_, fun-ext}
+use mathlib.Core.Bool.{Bool, true, false, _&&_}
+use mathlib.Core.List.{List, [], _∷_}
+use Prim.Native.Nat.{ℕ, _<_}
+use native.Mathlib.Omega.{arith}
+use borrow.Author.Tests.{ltb-false, eqb-true}
+use lib.Dec.{eqb, ltb}
+use lib.Count.{ones, ones-le}
+use lib.ListN.{length, getD}
+use Rattle.numbers.specs.Told.{Told, choose, answer}
+use Rattle.numbers.specs.Door.{unless, when, firstOf}
+use Rattle.numbers.specs.Limits.{maskTo, foot as footLimit}
+use Rattle.legs.specs.Legs.{Leg, foot, feet, every, finitePoint, permittedPoint, nowhere}
+use Rattle.legs.specs.Masks.{has}
+use Rattle.legs.specs.Answers.{givenFeet}
+use Rattle.legs.specs.Update.{place, updated}
+use Rattle.legs.specs.declared.Point.{Point}
+use Rattle.legs.specs.declared.Feet.{Feet}
+use Rattle.rows.specs.Rows.{everyPoint, updateRefusal, updateTold}
+use Rattle.rows.specs.How.{firstSix, seenOf, seenRefusal, seenTold}
+use Rattle.rows.proofs.Counting.{place-below-ones}
+use Rattle.rows.proofs.Reading.{place-holds}
+
+-- what was not refused passed the last two tests
+last-two : (finite permitted above as-many : Bool) → eqb (firstOf (unless finite 1 ∷ unless permitted 2 ∷ when above 4 ∷ unless as-many 5 ∷ [])) 0 ≡ true → (above ≡ false) × (as-many ≡ true)
+last-two false permitted above as-many e = (cc, cc)
+last-two true false above as-many e = (cc, cc)
+last-two true true true as-many e = (cc, cc)
+last-two true true false false e = (cc, cc)
+last-two true true false true e = (refl, refl)
+
+pub accepted : (f : Feet) (ps : List Point) (m : ℕ) → eqb (updateRefusal f ps m) 0 ≡ true → (m < 64) × (length ps ≡ ones m)
+unfolding updateRefusal
+accepted f ps m e =
+    let passed =
+    last-two
+    (every (λ l. finitePoint (foot f l)) && everyPoint finitePoint ps)
+    (every (λ l. permittedPoint footLimit (foot f l)) && everyPoint (permittedPoint footLimit) ps)
+    (ltb maskTo m)
+    (eqb (length ps) (ones m))
+    e in
+    (omega (arith, ltb-false maskTo m (passed .0)), eqb-true (length ps) (ones m) (passed .1))
+
+-- the first six points do for the whole row
+module _ (f : Feet) (ps : List Point) (m : ℕ) (small : m < 64) (as-many : length ps ≡ ones m) where
+  leg-is : (l : Leg) (t : Bool) → has m l ≡ t → choose t (getD (firstSix ps) (place m l) nowhere) (foot f l) ≡ choose t (getD ps (place m l) nowhere) (foot f l)
+  leg-is l true h =
+      let below : place m l < ones m = place-below-ones m l small h in
+      place-holds ps nowhere (place m l) (omega (arith, ones-le 6 m small)) (omega arith)
+  leg-is l false h = refl
+
+  pub six-do : updated f (firstSix ps) m ≡ updated f ps m
+  unfolding updated
+  six-do = ap feet (fun-ext (λ l. leg-is l (has m l) refl))
+
+chosen-is : (n : ℕ) (s t : Told) (b : Bool) → eqb n 0 ≡ b → (eqb n 0 ≡ true → s ≡ t) → answer n s ≡ answer n t
+chosen-is n s t true e same = ap (λ (u : Told). answer n u) (same e)
+chosen-is n s t false e same = simp e
+
+pub told-is : (f : Feet) (ps : List Point) (m : ℕ) → seenTold f (seenOf ps) (length ps) m ≡ updateTold f ps m
+unfolding seenTold updateTold seenRefusal updateRefusal seenOf
+told-is f ps m =
+    chosen-is (updateRefusal f ps m) (givenFeet (updated f (firstSix ps) m)) (givenFeet (updated f ps m)) (eqb (updateRefusal f ps m) 0) refl
+    (λ e. let good = accepted f ps m e in ap givenFeet (six-do f ps m (good .0) (good .1)))

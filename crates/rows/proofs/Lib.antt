@@ -1,0 +1,6 @@
+pub mod Counting
+pub mod Answered
+mod Reading
+mod Pieces
+mod Lending
+mod Cases

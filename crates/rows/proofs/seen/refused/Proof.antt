@@ -1,0 +1,67 @@
+-- `rows::seen::refused` meets its contract: the tests in the order of their numbers.
+use Rattle.rows.specs.How.{seenRefusal}
+use borrow.Author.Needs.{needs}
+use Rattle.rows.proofs.seen.refused.Statement.{statement}
+use Rattle.rows.proofs.seen.refused.Tie as tie
+
+foot-requires : tie.Need-foot-requires
+foot-requires c κs = search needs
+
+feet-finite-requires : tie.Need-feet-finite-requires
+feet-finite-requires c κs = search needs
+
+feet-permitted-requires : tie.Need-feet-permitted-requires
+feet-permitted-requires c κs = search needs
+
+unless-requires : tie.Need-unless-requires
+unless-requires c κs = search needs
+
+unless-requires-2 : tie.Need-unless-requires-2
+unless-requires-2 c κs = search needs
+
+mask-refused-requires : tie.Need-mask-refused-requires
+mask-refused-requires c κs = search needs
+
+count-refused-requires : tie.Need-count-refused-requires
+count-refused-requires c κs = search needs
+
+either-requires : tie.Need-either-requires
+either-requires c κs = search needs
+
+either-requires-2 : tie.Need-either-requires-2
+either-requires-2 c κs = search needs
+
+either-requires-3 : tie.Need-either-requires-3
+either-requires-3 c κs = search needs
+
+returns : tie.Need-returns
+unfolding seenRefusal
+returns c =
+    simp (
+      c .either3 .ensures,
+      c .before .either2 .ensures,
+      c .before .before .either .ensures,
+      c .before .before .before .count-refused .ensures,
+      c .before .before .before .before .mask-refused .ensures,
+      c .before .before .before .before .before .unless2 .ensures,
+      c .before .before .before .before .before .before .unless .ensures,
+      c .before .before .before .before .before .before .before .before .feet-permitted .ensures,
+      c .before .before .before .before .before .before .before .before .before .before .feet-finite .ensures,
+      c .before .before .before .before .before .before .before .before .before .before .before .foot .ensures,
+    )
+
+pub refused-spec : {M : Type 1} → statement M
+refused-spec =
+    tie.close
+    (tie.spec
+    foot-requires
+    feet-finite-requires
+    feet-permitted-requires
+    unless-requires
+    unless-requires-2
+    mask-refused-requires
+    count-refused-requires
+    either-requires
+    either-requires-2
+    either-requires-3
+    returns)

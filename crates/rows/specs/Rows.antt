@@ -1,0 +1,33 @@
+-- Document 01: "`updated_from_selected_legs` takes a lent row of foot points, as many as legs selected, in that order."
+use Prim.Native.Nat.{ℕ}
+use mathlib.Core.Bool.{Bool, true, _&&_}
+use mathlib.Core.List.{List, [], _∷_}
+use lib.Dec.{eqb, ltb}
+use lib.Count.{ones}
+use lib.ListN.{length}
+use Rattle.numbers.specs.Told.{Told, answer}
+use Rattle.numbers.specs.Door.{unless, when, firstOf}
+use Rattle.numbers.specs.Limits.{maskTo, foot as footLimit}
+use Rattle.legs.specs.Legs.{foot, every, finitePoint, permittedPoint}
+use Rattle.legs.specs.Answers.{givenFeet}
+use Rattle.legs.specs.Update.{updated}
+use Rattle.legs.specs.declared.Point.{Point}
+use Rattle.legs.specs.declared.Feet.{Feet}
+
+-- whether all points of a row pass, whatever its length
+unfoldable pub everyPoint : (Point → Bool) → List Point → Bool
+everyPoint t [] = true
+everyPoint t (p ∷ ps) = t p && everyPoint t ps
+
+-- 1: a float is NaN or infinite; 2: one is outside the table; 4: the mask is above 63; 5: "number of values differs from the number of one bits in the mask"
+unfoldable pub updateRefusal : Feet → List Point → ℕ → ℕ
+updateRefusal f ps m =
+    firstOf
+    (unless (every (λ l. finitePoint (foot f l)) && everyPoint finitePoint ps) 1
+    ∷ unless (every (λ l. permittedPoint footLimit (foot f l)) && everyPoint (permittedPoint footLimit) ps) 2
+    ∷ when (ltb maskTo m) 4
+    ∷ unless (eqb (length ps) (ones m)) 5
+    ∷ [])
+
+unfoldable pub updateTold : Feet → List Point → ℕ → Told
+updateTold f ps m = answer (updateRefusal f ps m) (givenFeet (updated f ps m))

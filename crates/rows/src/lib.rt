@@ -1,0 +1,47 @@
+// What takes a lent row of foot points: the update of selected legs (source 003).
+// The row is a `&[Point]`: nobody can write to it while it is lent, and the feet come by value. So a
+// refusal leaves both as they were, whatever its number.
+use legs::Feet;
+use legs::Planned;
+use legs::Point;
+ghost use mathlib.Core.Path.{_≡_};
+ghost use Prim.Native.Nat.{_≤_};
+ghost use lib.ListN.{take};
+ghost use Rattle.legs.specs.Answers.{told};
+ghost use Rattle.rows.specs.Rows.{updateTold};
+
+mod seen;
+
+// The flagged legs take the lent points in row order, the others stay; every lent point is looked
+// at, also one past the sixth.
+pub fn updated_from_selected_legs(feet: Feet, values: &[Point], mask: u32) -> Planned
+    ensures { λ r. ⌜ told r ≡ updateTold feet (now (values .entry)) mask ⌝ }
+{
+    let mut seen = seen::none();
+    let mut i = 0;
+    while i < values.len() {
+        seen = seen::noted(seen, i, values[i]);
+        i = i + 1;
+    }
+    seen::answered(feet, seen, values.len(), mask)
+}
+
+// The first n of 64 points are lent.
+fn lent(feet: Feet, values: [Point; 64], n: usize, mask: u32) -> Planned
+    requires { ⌜ n ≤ 64 ⌝ }
+    ensures { λ r. ⌜ told r ≡ updateTold feet (take n values) mask ⌝ }
+{
+    updated_from_selected_legs(feet, &values[..n], mask)
+}
+
+// The same of the first n of 64 points by value, for a caller that has no row to lend; all 64 where
+// n is more.
+pub fn updated_from_first(feet: Feet, values: [Point; 64], n: usize, mask: u32) -> Planned
+    ensures { λ r. ⌜ told r ≡ updateTold feet (take n values) mask ⌝ }
+{
+    if n < 64 {
+        lent(feet, values, n, mask)
+    } else {
+        lent(feet, values, 64, mask)
+    }
+}

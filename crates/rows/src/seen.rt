@@ -1,0 +1,99 @@
+// What is remembered of a lent row while it is read, point by point.
+use legs::Feet;
+use legs::Planned;
+use legs::Point;
+use numbers::door;
+ghost use mathlib.Core.Path.{_≡_};
+ghost use mathlib.Core.List.{[]};
+ghost use lib.Dec.{eqb};
+ghost use lib.Count.{ones};
+ghost use Rattle.legs.specs.Answers.{told};
+ghost use Rattle.numbers.specs.Door.{unless};
+ghost use Rattle.rows.specs.How.{seenOf, placed, noted, seenRefusal, seenTold};
+
+// The first six points, +0 where there are fewer, and whether all points so far may come in.
+pub struct Seen {
+    pub row: [Point; 6],
+    pub finite: bool,
+    pub permitted: bool,
+}
+
+// Before the first point.
+pub fn none() -> Seen
+    ensures { λ r. ⌜ r ≡ seenOf [] ⌝ }
+{
+    let origin = Point {
+        x: 0.0,
+        y: 0.0,
+        z: 0.0,
+    };
+    Seen {
+        row: [origin; 6],
+        finite: true,
+        permitted: true,
+    }
+}
+
+// With p in place i, where there is such a place.
+fn placed(row: [Point; 6], i: usize, p: Point) -> [Point; 6]
+    ensures { λ r. ⌜ r ≡ placed row i p ⌝ }
+{
+    if i < 6 {
+        let mut next = row;
+        next[i] = p;
+        next
+    } else {
+        row
+    }
+}
+
+// With the point p, which is number i, counted from 0.
+pub fn noted(seen: Seen, i: usize, p: Point) -> Seen
+    ensures { λ r. ⌜ r ≡ noted seen i p ⌝ }
+{
+    let limit = numbers::limits::foot();
+    let before = seen.row;
+    let row = placed(before, i, p);
+    Seen {
+        row: row,
+        finite: seen.finite & legs::core::point_finite(p),
+        permitted: seen.permitted & legs::core::point_permitted(limit, p),
+    }
+}
+
+// 5 where the number of points is not the mask's count of ones, else 0.
+fn count_refused(n: usize, mask: u32) -> u32
+    ensures { λ r. ⌜ r ≡ unless (eqb n (ones mask)) 5 ⌝ }
+{
+    let needed = u32::count_ones(mask) as usize;
+    door::unless(n == needed, 5)
+}
+
+// Why an update by n points is refused: the lowest number that applies, or 0.
+fn refused(feet: Feet, seen: Seen, n: usize, mask: u32) -> u32
+    ensures { λ r. ⌜ r ≡ seenRefusal feet seen n mask ⌝ }
+{
+    let limit = numbers::limits::foot();
+    let finite = legs::core::feet_finite(feet) & seen.finite;
+    let permitted = legs::core::feet_permitted(limit, feet) & seen.permitted;
+    door::either(
+        door::unless(finite, 1),
+        door::either(
+            door::unless(permitted, 2),
+            door::either(legs::core::mask_refused(mask), count_refused(n, mask)),
+        ),
+    )
+}
+
+// The answer to an update by n points, once all are read.
+pub fn answered(feet: Feet, seen: Seen, n: usize, mask: u32) -> Planned
+    ensures { λ r. ⌜ told r ≡ seenTold feet seen n mask ⌝ }
+{
+    let number = refused(feet, seen, n, mask);
+    if number == 0 {
+        let row = seen.row;
+        Planned::Feet(legs::core::updated(feet, row, mask))
+    } else {
+        Planned::Refused(number)
+    }
+}
