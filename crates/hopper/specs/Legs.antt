@@ -5,3 +5,5 @@ pub use Rattle.house.specs.LegsAnswers
 pub use Rattle.house.specs.LegsMerge
 pub use Rattle.house.specs.LegsSelect
 pub use Rattle.house.specs.LegsUpdate
+pub use Rattle.house.specs.RowsRows
+pub use Rattle.house.specs.RowsHow

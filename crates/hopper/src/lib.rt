@@ -25,6 +25,8 @@ pub mod legs {
     pub use house::from_legs;
     pub use house::merge_with;
     pub use house::selected_legs;
+    pub use house::updated_from_first;
+    pub use house::updated_from_selected_legs;
 }
 
 // One step towards a target, states that step, the walk that ends, the longest distance.

@@ -12,6 +12,8 @@ pub use Rattle.legs.specs.Answers as LegsAnswers
 pub use Rattle.legs.specs.Merge as LegsMerge
 pub use Rattle.legs.specs.Select as LegsSelect
 pub use Rattle.legs.specs.Update as LegsUpdate
+pub use Rattle.rows.specs.Rows as RowsRows
+pub use Rattle.rows.specs.How as RowsHow
 pub use Rattle.moves.specs.Distance as MovesDistance
 pub use Rattle.moves.specs.Moving as MovesMoving
 pub use Rattle.moves.specs.Answers as MovesAnswers

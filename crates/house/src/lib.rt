@@ -42,3 +42,5 @@ pub use numbers::patterns::Pattern;
 pub use numbers::patterns::from_pattern;
 pub use numbers::patterns::pattern_of;
 pub use roots::square_root;
+pub use rows::updated_from_first;
+pub use rows::updated_from_selected_legs;

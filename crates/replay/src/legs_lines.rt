@@ -2,9 +2,12 @@
 use crate::answers;
 use crate::answers::Out;
 use crate::fields;
+use crate::fields::Cursor;
+use hopper::legs::Feet;
 use hopper::legs::Planned;
 use hopper::legs::Point;
 use hopper::legs::Selected;
+ghost use Prim.Native.Nat.{_≤_};
 
 pub fn planned(p: Planned) -> Out {
     match p {
@@ -57,6 +60,75 @@ pub fn select(s: &[u8]) -> Out {
     let f = fields::feet(s, mask.next);
     if fields::done(s, f.next) {
         selected(hopper::legs::selected_legs(f.value, (mask.value % 0x1_0000_0000) as u32))
+    } else {
+        answers::unreadable()
+    }
+}
+
+// Values to lend: the first ones are those of the line.
+struct ValuesAt {
+    values: [Point; 64],
+    next: Cursor,
+}
+
+// n points of the line.
+fn points(s: &[u8], c: Cursor, n: usize) -> ValuesAt
+    requires { ⌜ n ≤ 64 ⌝ }
+{
+    let origin = Point {
+        x: 0.0,
+        y: 0.0,
+        z: 0.0,
+    };
+    let mut values = [origin; 64];
+    let mut next = c;
+    let mut i = 0;
+    while i < n {
+        let p = fields::point(s, next);
+        let value = p.value;
+        let after = p.next;
+        values[i] = value;
+        next = after;
+        i += 1;
+    }
+    ValuesAt {
+        values: values,
+        next: next,
+    }
+}
+
+// The feet after an update; a refusal shows them as they were.
+fn updated(before: Feet, after: Planned) -> Out {
+    match after {
+        Planned::Feet(f) => answers::feet(answers::ok(), f),
+        Planned::Refused(n) => {
+            let o = answers::refused(n);
+            let o = answers::letter(o, b'r');
+            let o = answers::byte(o, b'o');
+            let o = answers::byte(o, b'w');
+            answers::feet(o, before)
+        }
+    }
+}
+
+// upd: a mask, how many values, the values, and a row.
+pub fn update(s: &[u8]) -> Out {
+    let mask = fields::short(s, fields::first(s));
+    let count = fields::short(s, mask.next);
+    if 64 < count.value {
+        return answers::unreadable();
+    }
+    let n = count.value as usize;
+    let lent = points(s, count.next, n);
+    let feet = fields::feet(s, lent.next);
+    if fields::done(s, feet.next) {
+        let before = feet.value;
+        let values = lent.values;
+        let m = (mask.value % 0x1_0000_0000) as u32;
+        updated(
+            before,
+            hopper::legs::updated_from_first(before, values, n, m),
+        )
     } else {
         answers::unreadable()
     }

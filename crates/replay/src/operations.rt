@@ -22,6 +22,7 @@ fn on_feet(s: &[u8], name: u64) -> Out {
     match name {
         names::MERGE => legs_lines::merge(s),
         names::SEL => legs_lines::select(s),
+        names::UPD => legs_lines::update(s),
         names::MV => moves_lines::point_move(s),
         names::MV6 => moves_lines::feet_move(s),
         names::LDIST => moves_lines::longest(s),

@@ -1,0 +1,52 @@
+-- `replay::legs_lines::points` is safe and ends: the place goes up to n, 64 at most, and the array keeps its length.
+use lib.ListN.{length}
+use mathlib.Core.Path.{_≡_}
+use Prim.Native.Nat.{_≤_, _-_}
+use borrow.Author.Needs.{needs}
+use Rattle.replay.proofs.legs_lines.points.Statement.{statement}
+use Rattle.replay.proofs.legs_lines.points.Tie as tie
+
+abbrev Inv-loop : tie.InvT-loop
+Inv-loop s n values₀ next₀ i₀ values next i = (i ≤ n) × (64 ≡ length values)
+
+abbrev μ-loop : tie.MeasureT-loop
+μ-loop s n values₀ next₀ i₀ values next i = n - i
+
+loop-holds : tie.Need-loop-holds Inv-loop μ-loop
+loop-holds c = search needs
+
+point-requires : tie.Need-point-requires Inv-loop μ-loop
+point-requires c κs = search needs
+
+mul-values : tie.Need-mul-values Inv-loop μ-loop
+mul-values c = search needs
+
+array-set-from-values : tie.Need-array-set-from-values Inv-loop μ-loop
+array-set-from-values c = search needs
+
+add-i : tie.Need-add-i Inv-loop μ-loop
+add-i c = search needs
+
+loop-less : tie.Need-loop-less Inv-loop μ-loop
+loop-less c = search needs
+
+loop-again : tie.Need-loop-again Inv-loop μ-loop
+loop-again c = search needs
+
+returns : tie.Need-returns Inv-loop μ-loop
+returns c = search needs
+
+pub points-spec : {M : Type 1} → statement M
+points-spec =
+    tie.close
+    (tie.spec
+    Inv-loop
+    μ-loop
+    loop-holds
+    point-requires
+    mul-values
+    array-set-from-values
+    add-i
+    loop-less
+    loop-again
+    returns)
