@@ -3,7 +3,6 @@ use crate::answers;
 use crate::answers::Out;
 use crate::fields;
 use crate::fields::Cursor;
-use hopper::legs::Feet;
 use hopper::legs::Planned;
 use hopper::legs::Point;
 use hopper::legs::Selected;
@@ -97,16 +96,25 @@ fn points(s: &[u8], c: Cursor, n: usize) -> ValuesAt
     }
 }
 
-// The feet after an update; a refusal shows them as they were.
-fn updated(before: Feet, after: Planned) -> Out {
+// The bytes of the line from `from` on, as they came.
+fn echoed(o: Out, s: &[u8], from: usize) -> Out {
+    let mut o = o;
+    let mut i = from;
+    while i < s.len() {
+        o = answers::byte(o, s[i]);
+        i += 1;
+    }
+    o
+}
+
+// The feet after an update; a refusal leaves them, and shows them as the line gave them.
+fn updated(after: Planned, s: &[u8], row: usize) -> Out {
     match after {
         Planned::Feet(f) => answers::feet(answers::ok(), f),
         Planned::Refused(n) => {
-            let o = answers::refused(n);
-            let o = answers::letter(o, b'r');
+            let o = answers::letter(answers::refused(n), b'r');
             let o = answers::byte(o, b'o');
-            let o = answers::byte(o, b'w');
-            answers::feet(o, before)
+            echoed(answers::byte(o, b'w'), s, row)
         }
     }
 }
@@ -120,15 +128,13 @@ pub fn update(s: &[u8]) -> Out {
     }
     let n = count.value as usize;
     let lent = points(s, count.next, n);
-    let feet = fields::feet(s, lent.next);
+    let row = lent.next;
+    let feet = fields::feet(s, row);
     if fields::done(s, feet.next) {
-        let before = feet.value;
         let values = lent.values;
         let m = (mask.value % 0x1_0000_0000) as u32;
-        updated(
-            before,
-            hopper::legs::updated_from_first(before, values, n, m),
-        )
+        let after = hopper::legs::updated_from_first(feet.value, values, n, m);
+        updated(after, s, row.at)
     } else {
         answers::unreadable()
     }
