@@ -1,6 +1,7 @@
 pub mod Counting
 pub mod Answered
+pub mod OneAnswer
 mod Reading
+mod Cases
 mod Pieces
 mod Lending
-mod Cases

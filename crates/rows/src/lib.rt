@@ -1,6 +1,6 @@
 // What takes a lent row of foot points: the update of selected legs (source 003).
-// The row is a `&[Point]`: nobody can write to it while it is lent, and the feet come by value. So a
-// refusal leaves both as they were, whatever its number.
+// A refusal leaves all as it was. The feet come by value, so the caller keeps its own; the row is
+// lent as `&`, so nobody writes to it, and the promise says that it holds at the end what it held.
 use legs::Feet;
 use legs::Planned;
 use legs::Point;
@@ -15,7 +15,8 @@ mod seen;
 // The flagged legs take the lent points in row order, the others stay; every lent point is looked
 // at, also one past the sixth.
 pub fn updated_from_selected_legs(feet: Feet, values: &[Point], mask: u32) -> Planned
-    ensures { λ r. ⌜ told r ≡ updateTold feet (now (values .entry)) mask ⌝ }
+    ensures { λ r. ⌜ (told r ≡ updateTold feet (now (values .entry)) mask)
+        × (now (values .exit) ≡ now (values .entry)) ⌝ }
 {
     let mut seen = seen::none();
     let mut i = 0;

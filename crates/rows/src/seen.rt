@@ -76,12 +76,11 @@ fn refused(feet: Feet, seen: Seen, n: usize, mask: u32) -> u32
     let limit = numbers::limits::foot();
     let finite = legs::core::feet_finite(feet) & seen.finite;
     let permitted = legs::core::feet_permitted(limit, feet) & seen.permitted;
+    let above = legs::core::mask_refused(mask);
+    let differs = count_refused(n, mask);
     door::either(
         door::unless(finite, 1),
-        door::either(
-            door::unless(permitted, 2),
-            door::either(legs::core::mask_refused(mask), count_refused(n, mask)),
-        ),
+        door::either(door::unless(permitted, 2), door::either(above, differs)),
     )
 }
 

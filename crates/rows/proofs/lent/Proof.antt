@@ -140,8 +140,12 @@ module _ {M : Type 1} (𝓤 : URA M) (H : Heap 𝓤) (A : Atoms 𝓤) (W : Given
       abbrev said-of : Planned → SProp 𝓤
       said-of r = ensured 𝓤 H A top.ended (top.clauses 𝓤 H A mem′ run) (α ∷ [], tt) (f′, (sl, (m, tt))) tt r
 
-      said : (r : Planned) → ent 𝓤 (said-of r) (fact 𝓤 (told r ≡ updateTold f′ ys m))
-      said r = exE 𝓤 _ (λ ws. snd∗ 𝓤 (sem 𝓤 H A (lasts top.ended (α ∷ [], tt) (f′, (sl, (m, tt))) ws)) (fact 𝓤 (told r ≡ updateTold f′ ys m)))
+      -- what it says: the answer, and that the slice holds what it held
+      abbrev Said : Planned → Type 0
+      Said r = (told r ≡ updateTold f′ ys m) × (ys ≡ ys)
+
+      said : (r : Planned) → ent 𝓤 (said-of r) (fact 𝓤 (Said r))
+      said r = exE 𝓤 _ (λ ws. snd∗ 𝓤 (sem 𝓤 H A (lasts top.ended (α ∷ [], tt) (f′, (sl, (m, tt))) ws)) (fact 𝓤 (Said r)))
 
     module _ (C : Calls 𝓤 H) (Λ : Loops 𝓤 H) (fm : FmC 𝓤 H (W .laws) C) (known : Triple 𝓤 (C #updated) (Top 𝓤 H A mem′ run)) where
       walk : ent 𝓤 (onEntry 𝓤 H A f.signature tt tt (f′, (xs, (n, (m, tt)))) at) (WpFn 𝓤 H C Λ code.function (val-feet f′ ∷ val-array xs ∷ vint w64 n ∷ vint w32 m ∷ []) Post)
@@ -163,7 +167,7 @@ module _ {M : Type 1} (𝓤 : URA M) (H : Heap 𝓤) (A : Atoms 𝓤) (W : Given
           -- [what is asked; the loan; the other elements; _7; …; _6; …; that _5 dies; _4; …; _3; …; _2; …; _1; …; _0; …]
           calls-at ! fm (Top 𝓤 H A mem′ run) known (to l₅ α γ) (and-then ! (load ! (from ! (stop !)) (look ! 14 refl)) (and-then ! (load ! (from ! (stop !)) (look ! 3 refl)) (and-then ! (load ! (from ! (stop !)) (look ! 8 refl)) (no-more !)))) (λ u.
           use1 W (later (some (λ (r : Planned). ((‵ (flft (α ∷ []) fullShare) ⊛ ‵ ftrue) ⊛ ‵ (E.the-row .own r (u ∷ []))) ⊛ raw (said-of l₅ α γ r)))) (id⊢ 𝓤 _) $ await ! tt $ pick ! (λ r.
-          split ! $ move ! (1 ∷ []) $ use1 W (raw (fact 𝓤 (told r ≡ updateTold f′ ys m))) (said l₅ α γ r) $ heard ! (told r ≡ updateTold f′ ys m) (λ e. split ! $ split ! $
+          split ! $ move ! (1 ∷ []) $ use1 W (raw (fact 𝓤 (Said l₅ α γ r))) (said l₅ α γ r) $ heard ! (Said l₅ α γ r) (λ e. split ! $ split ! $
           -- [the token; true; the result; the loan; the other elements; …]: the lifetime is ended, and the array is whole again
           lft-end ! tt $ move ! (0 ∷ 3 ∷ []) $ lent-back ! tt $ fsplit ! $ drop ! $ move ! (0 ∷ 3 ∷ []) $
           use2 W (‵ (elements 𝓤 H A W R tt 64 xs l₅)) (uncut 𝓤 H A W (shares R) fullShare l₅ n xs 0) $ use1 W (‵ (froom (τ 5) l₅ 0)) (arr-room 𝓤 H A W R tt 64 xs l₅ long) $ move ! (2 ∷ []) $
@@ -171,7 +175,7 @@ module _ {M : Type 1} (𝓤 : URA M) (H : Heap 𝓤) (A : Atoms 𝓤) (W : Given
           peeks ! E.the-row (Is E.the-row) (shows 𝓤 H A E.the-row) r (u ∷ []) (λ is. land ! (from ! (stop !)) (init ! 16 refl (EL.lawful E.the-type E′.the-laws 𝓤 H A W tt .typed r _ is .0)) $
           returns ! (look ! 16 refl) $ forget ! 3 refl $ forget ! 5 refl $ forget ! 8 refl $ forget ! 10 refl $ forget ! 12 refl $ forget ! 14 refl $ forget ! 16 refl $
           move ! (16 ∷ 17 ∷ []) $ free1 ! $ move ! (14 ∷ 15 ∷ []) $ free1 ! $ move ! (12 ∷ 13 ∷ []) $ free1 ! $ move ! (10 ∷ 11 ∷ []) $ free1 ! $ move ! (8 ∷ 9 ∷ []) $ free1 ! $ move ! (1 ∷ 7 ∷ []) $ free1 ! $ move ! (4 ∷ 5 ∷ []) $ free1 ! $ move ! (2 ∷ 3 ∷ []) $ free1 ! $ free0 ! $
-          keep ! (0 ∷ []) $ by ! (exits r u e)))))))))))))))
+          keep ! (0 ∷ []) $ by ! (exits r u (e .0))))))))))))))))
 
 module _ {M : Type 1} (𝓤 : URA M) (H : Heap 𝓤) (A : Atoms 𝓤) (W : Given 𝓤 H A) (mem : Memory → SProp 𝓤) (run : Routine → Fun 𝓤) where
   goes : AllGo 𝓤 H A W 0 (f.signature .params) (f.ended .kept) stayed

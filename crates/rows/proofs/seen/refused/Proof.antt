@@ -13,17 +13,17 @@ feet-finite-requires c κs = search needs
 feet-permitted-requires : tie.Need-feet-permitted-requires
 feet-permitted-requires c κs = search needs
 
-unless-requires : tie.Need-unless-requires
-unless-requires c κs = search needs
-
-unless-requires-2 : tie.Need-unless-requires-2
-unless-requires-2 c κs = search needs
-
 mask-refused-requires : tie.Need-mask-refused-requires
 mask-refused-requires c κs = search needs
 
 count-refused-requires : tie.Need-count-refused-requires
 count-refused-requires c κs = search needs
+
+unless-requires : tie.Need-unless-requires
+unless-requires c κs = search needs
+
+unless-requires-2 : tie.Need-unless-requires-2
+unless-requires-2 c κs = search needs
 
 either-requires : tie.Need-either-requires
 either-requires c κs = search needs
@@ -41,10 +41,10 @@ returns c =
       c .either3 .ensures,
       c .before .either2 .ensures,
       c .before .before .either .ensures,
-      c .before .before .before .count-refused .ensures,
-      c .before .before .before .before .mask-refused .ensures,
-      c .before .before .before .before .before .unless2 .ensures,
-      c .before .before .before .before .before .before .unless .ensures,
+      c .before .before .before .unless2 .ensures,
+      c .before .before .before .before .unless .ensures,
+      c .before .before .before .before .before .count-refused .ensures,
+      c .before .before .before .before .before .before .mask-refused .ensures,
       c .before .before .before .before .before .before .before .before .feet-permitted .ensures,
       c .before .before .before .before .before .before .before .before .before .before .feet-finite .ensures,
       c .before .before .before .before .before .before .before .before .before .before .before .foot .ensures,
@@ -57,10 +57,10 @@ refused-spec =
     foot-requires
     feet-finite-requires
     feet-permitted-requires
-    unless-requires
-    unless-requires-2
     mask-refused-requires
     count-refused-requires
+    unless-requires
+    unless-requires-2
     either-requires
     either-requires-2
     either-requires-3
