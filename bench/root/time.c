@@ -1,5 +1,6 @@
-// Nanoseconds a call: the entry `square_root` against the hardware's sqrtf, chained (each argument waits for the last
-// root) and not, in one run. Both are called, not inlined. Each figure is the best of 15 rounds.
+// Nanoseconds a call: the entry `square_root` against the hardware's sqrtf, chained and apart, in one run.
+// Both are called, not inlined. Each figure is the best of 300 short rounds, taken in turn, so that a busy machine
+// spoils few of them.
 #include <math.h>
 #include <stdint.h>
 #include <stdio.h>
@@ -9,7 +10,8 @@
 uint32_t probe_square_root(float x, float *out);
 
 #define COUNT 4096
-#define TURNS 200
+#define TURNS 10
+#define ROUNDS 300
 
 static float numbers[COUNT];
 
@@ -21,28 +23,45 @@ static __attribute__((noinline)) uint32_t hardware(float x, float *out) { __asm_
 
 typedef uint32_t (*root)(float, float *);
 
-static double timed(root f, uint32_t mask) {
-    double best = 1e18;
-    for (int round = 0; round < 15; round++) {
-        uint32_t last = 0;
-        double start = now();
-        for (int t = 0; t < TURNS; t++)
-            for (int i = 0; i < COUNT; i++) {
-                float r;
-                f(number(bits(numbers[i]) + (last & mask)), &r);
-                last = bits(r);
-            }
-        double took = now() - start;
-        __asm__ volatile("" ::"r"(last));
-        if (took < best) best = took;
-    }
-    return best / ((double)TURNS * COUNT);
+// each argument waits for the last root
+static double chained(root f) {
+    uint32_t last = 0;
+    double start = now();
+    for (int t = 0; t < TURNS; t++)
+        for (int i = 0; i < COUNT; i++) {
+            float r;
+            f(number(bits(numbers[i]) + (last & 1)), &r);
+            last = bits(r);
+        }
+    double took = now() - start;
+    __asm__ volatile("" ::"r"(last));
+    return took / ((double)TURNS * COUNT);
+}
+
+static double apart(root f) {
+    uint32_t sum = 0;
+    double start = now();
+    for (int t = 0; t < TURNS; t++)
+        for (int i = 0; i < COUNT; i++) {
+            float r;
+            f(numbers[i], &r);
+            sum += bits(r);
+        }
+    double took = now() - start;
+    __asm__ volatile("" ::"r"(sum));
+    return took / ((double)TURNS * COUNT);
 }
 
 static void compare(const char *what) {
-    double a = timed(hardware, 1), b = timed(probe_square_root, 1);
-    double c = timed(hardware, 0), d = timed(probe_square_root, 0);
-    printf("%-26s chained %5.2f ns against %5.2f: %.2f   apart %5.2f ns against %5.2f: %.2f\n", what, b, a, b / a, d, c, d / c);
+    double best[4] = {1e9, 1e9, 1e9, 1e9};
+    for (int round = 0; round < ROUNDS; round++)
+        for (int k = 0; k < 4; k++) {
+            root f = k % 2 ? probe_square_root : hardware;
+            double t = k < 2 ? chained(f) : apart(f);
+            if (t < best[k]) best[k] = t;
+        }
+    printf("%-26s chained %5.2f ns against %5.2f: %.2f   apart %5.2f ns against %5.2f: %.2f\n", what, best[1], best[0],
+        best[1] / best[0], best[3], best[2], best[3] / best[2]);
 }
 
 int main(void) {
