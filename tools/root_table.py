@@ -1,33 +1,28 @@
 #!/usr/bin/env python3
-"""root_table.py: prints the table ARCS of crates/roots/src/seed.rt, the same on every run.
+"""root_table.py: prints the rows of `arc_at` in crates/roots/src/seed.rt, the same on every run.
 
-A radicand n has 47 or 48 binary digits: n = m * 2^23 for an odd p and m * 2^24 for an even one, where m has 24 digits.
-Row i = 64 * (p % 2) + m / 2^17 - 64 covers 2^17 numbers m. Its three entries say the root along the row, in 256ths:
-start at the row's first number, rise to the row's end, bend = how far the middle lies above the chord, times four.
-Each of the three points is the nearest whole number; the checker tests this rule over the whole table
-(crates/roots/proofs/Arcs.antt).
+A radicand n has 47 or 48 binary digits: n = m * 2^23 or m * 2^24, where m has 24. Row t covers 2^17 numbers m: the first
+64 rows those of 47 digits, the others those of 48. Its three entries tell the root along the row, in 256ths: the start
+at the row's first number, the rise to the row's end, and the bend, by which the middle lies above the chord, times four.
+Each of the three points is the nearest whole number; the contract of `arc_at` holds every row to this rule.
 """
 from math import isqrt
-
-ROWS = 128
 
 
 def nearest_root(n):
     return (isqrt(4 * n) + 1) // 2
 
 
-def place(row, half):
-    """The radicand at a row's start (0), middle (1) and end (2), times 2^16."""
-    return (128 + 2 * row + half) << 56 if row < 64 else (2 * row + half) << 55
+def place(half):
+    """The radicand at a half of a row, times 2^16, counted in halves from the first row's start."""
+    return (128 + half + max(0, half - 128)) << 55
 
 
 def arc(row):
-    start, middle, end = (nearest_root(place(row, half)) for half in range(3))
+    start, middle, end = (nearest_root(place(2 * row + half)) for half in range(3))
     return start, end - start, 4 * middle - 2 * (start + end)
 
 
-print("const ARCS: [u64; %d] = [" % (3 * ROWS))
-for row in range(ROWS):
-    for entry in arc(row):
-        print("    %d," % entry)
-print("];")
+for row in range(128):
+    print("        %d => Arc {" % row)
+    print("            start: %d,\n            rise: %d,\n            bend: %d,\n        }," % arc(row))

@@ -2,7 +2,7 @@
 use mathlib.Core.Path.{_≡_}
 use Prim.Native.Nat.{ℕ, zero, suc, _+_, _-_, _*_, _/_, _%_, _^_, _≤_, _<_}
 use mathlib.Core.Bool.{Bool, true, false, cond}
-use lib.Dec.{leb, ltb}
+use lib.Dec.{leb}
 use lib.Ieee.{Float, binary32, size, units}
 
 abbrev pub sq : ℕ → ℕ
@@ -42,21 +42,20 @@ pub record Even (m p r : ℕ) : Type 0 where
   pub r-low : 2 ^ 46 ≤ r
   pub r-high : r < 2 ^ 48
 
--- the whole number nearest to the root of n, for n below 4 ^ 32
-abbrev pub nearestWhole : ℕ → ℕ
-nearestWhole n = (wholeRoot 33 (4 * n) + 1) / 2
+-- The table of roots: row t starts at 2 t halves of a row. The number there, times 2 ^ 16: the rows are twice as long from row 64 on.
+abbrev pub place : ℕ → ℕ
+place half = (128 + half + (half - 128)) * 2 ^ 55
 
--- The table of roots has 128 rows. A row covers the numbers m from 2 ^ 17 * (64 + i % 64) on, 2 ^ 17 of them, and has the roots of m * 2 ^ 24 where i is
--- below 64 and of m * 2 ^ 23 otherwise, in 256ths: at its start (0), middle (1) and end (2), each the nearest whole number.
-abbrev pub point : ℕ → ℕ → ℕ
-point i half = nearestWhole (cond (ltb i 64) ((128 + 2 * i + half) * 2 ^ 56) ((2 * i + half) * 2 ^ 55))
-
--- a row's entries: where it starts, how far it rises, and how far its middle lies above the chord, times four
-abbrev pub arc : ℕ → ℕ → ℕ
-arc i zero = point i 0
-arc i (suc zero) = point i 2 - point i 0
-arc i (suc (suc c)) = 4 * point i 1 - 2 * (point i 0 + point i 2)
-
-unfoldable pub arcEntry : ℕ → ℕ
-unfolding wholeRoot
-arcEntry k = arc (k / 3) (k % 3)
+-- A row tells the root at its start, its middle and its end, each by the nearest whole number: where it starts, how far it rises to the end, and how far the
+-- middle lies above the chord, times four. A row that starts at 0 is none.
+pub record AlongRoot (t start rise bend : ℕ) : Type 0 where
+  pub start-high : start ≤ 4294967296
+  pub rise-high : rise ≤ 33554432
+  pub bend-high : bend ≤ 131072
+  pub start-low : sq (2 * start - 1) ≤ 4 * place (2 * t)
+  pub start-up : 0 < start → 4 * place (2 * t) ≤ sq (2 * start + 1)
+  pub middle-whole : (2 * rise + bend) % 4 ≡ 0
+  pub middle-low : sq (2 * ((4 * start + 2 * rise + bend) / 4) - 1) ≤ 4 * place (2 * t + 1)
+  pub middle-up : 0 < start → 4 * place (2 * t + 1) ≤ sq (2 * ((4 * start + 2 * rise + bend) / 4) + 1)
+  pub end-low : sq (2 * (start + rise) - 1) ≤ 4 * place (2 * t + 2)
+  pub end-up : 0 < start → 4 * place (2 * t + 2) ≤ sq (2 * (start + rise) + 1)

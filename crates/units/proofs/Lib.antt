@@ -12,4 +12,3 @@ pub mod Above
 pub mod Digits
 pub mod Door
 pub mod Table
-pub mod Tables
