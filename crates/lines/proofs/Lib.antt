@@ -1,0 +1,2 @@
+mod Flags
+mod Reading

@@ -1,0 +1,2 @@
+// Text on slices: hex and decimal digits, fields, the walk printer's record and its listing lines.
+pub mod digits;
