@@ -1,2 +1,5 @@
 mod Flags
 mod Reading
+mod Decimal
+mod Stores
+mod Numerals

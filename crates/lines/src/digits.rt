@@ -14,7 +14,10 @@ pub struct Digits {
 fn no_digits() -> Digits
     ensures { λ r. ⌜ r ≡ noDigits ⌝ }
 {
-    Digits { good: false, value: 0 }
+    Digits {
+        good: false,
+        value: 0,
+    }
 }
 
 // The value of a lower-case hex digit; 16 for any other byte.
@@ -47,7 +50,10 @@ fn read_in(base: u64, s: &[u8]) -> Digits
     requires { ⌜ (base ≤ 16) × (length (now s) ≤ 16) ⌝ }
     ensures { λ r. ⌜ r ≡ readIn base (now (s .entry)) ⌝ }
 {
-    let mut a = Digits { good: true, value: 0 };
+    let mut a = Digits {
+        good: true,
+        value: 0,
+    };
     let mut i = 0;
     while i < s.len() {
         a = pushed(base, a, s[i]);
