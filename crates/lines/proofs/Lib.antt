@@ -3,3 +3,4 @@ mod Reading
 mod Decimal
 mod Stores
 mod Numerals
+mod Places
