@@ -1,16 +1,20 @@
 -- The fields of a line, nine bytes apart, and what the record and the step's line make of them.
 use mathlib.Core.Path.{_≡_, refl, sym, ap, _∙_}
-use mathlib.Core.Bool.{Bool, true, false}
+use mathlib.Core.Bool.{Bool, true, false, _&&_}
 use mathlib.Core.List.{List, [], _∷_}
-use Prim.Native.Nat.{ℕ, suc, _+_}
+use Prim.Native.Nat.{ℕ, suc, _+_, _-_, _≤_}
 use lib.Dec.{eqb}
 use lib.ListN.{length, getD, drop}
 use lib.Seq.{drop-drop}
-use borrow.Author.Tests.{eq-eqb}
+use borrow.Author.Tests.{eq-eqb, le-ltb}
+use Rattle.lines.specs.declared.digits.Digits.{Digits}
 use Rattle.lines.specs.declared.fields.Field.{Field}
+use Rattle.lines.specs.declared.listed.Line.the-variants.{Move}
+use Rattle.lines.specs.declared.listed.Found.the-variants.{Known, NoLine}
 use Rattle.lines.specs.declared.record.Asked.{Asked}
 use Rattle.lines.specs.declared.record.Asked.the-variants.{Record, NoRecord}
 use Rattle.lines.specs.Parts.{tabbed, tabbeds, allGood, bitsOf}
+use Rattle.lines.specs.Reading.{stepCount, moved, moveOf}
 use Rattle.lines.specs.Record.{recordOf, walkOf}
 
 module _ (s : List ℕ) where
@@ -43,3 +47,18 @@ module _ (s : List ℕ) where
     pub record-no : length s ≡ 64 → allGood (eqb (getD s 0 0) 87) seven ≡ false → NoRecord ≡ recordOf s
     unfolding recordOf allGood bitsOf
     record-no long bad = rw (eq-eqb (length s) 64 long, fields-seven, bad)
+
+  module _ (limit : ℕ) (n : Digits) (x y z : Field) (e : n ≡ stepCount limit s) (e₀ : x ≡ tabbed (drop (length s - 27) s)) (e₁ : y ≡ tabbed (drop (length s - 27 + 9) s)) (e₂ : z ≡ tabbed (drop (length s - 27 + 9 + 9) s)) (long : 29 ≤ length s) where
+    abbrev three : List Field
+    three = x ∷ y ∷ z ∷ []
+
+    abbrev begun : Bool
+    begun = eqb (getD s 0 0) 77 && eqb (getD s 1 0) 9 && n .good
+
+    pub move-yes : allGood begun three ≡ true → Known (Move (moved (n .value) (bitsOf three))) ≡ moveOf limit s
+    unfolding moveOf
+    move-yes good = rw (← e, le-ltb (length s) 29 long, fields-three (length s - 27) x y z e₀ e₁ e₂, good)
+
+    pub move-no : allGood begun three ≡ false → NoLine ≡ moveOf limit s
+    unfolding moveOf
+    move-no bad = rw (← e, le-ltb (length s) 29 long, fields-three (length s - 27) x y z e₀ e₁ e₂, bad)
