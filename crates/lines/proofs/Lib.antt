@@ -4,3 +4,6 @@ mod Decimal
 mod Stores
 mod Numerals
 mod Places
+mod Values
+mod Exact
+mod Counts
