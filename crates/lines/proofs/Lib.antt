@@ -7,3 +7,5 @@ mod Places
 mod Values
 mod Exact
 mod Counts
+mod Rows
+pub mod Records

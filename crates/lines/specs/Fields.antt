@@ -1,5 +1,5 @@
 -- Document 01, "The walk printer": "fields parted by tabs". The separator is a parameter.
-use Prim.Native.Nat.{ℕ, suc, _+_}
+use Prim.Native.Nat.{ℕ, suc, _+_, _<_, _^_}
 use mathlib.Core.List.{List, [], _∷_, _++_}
 use lib.Dec.{eqb}
 use lib.ListN.{drop}
@@ -25,3 +25,8 @@ span sep (b ∷ s) = choose (eqb b sep) 0 (suc (span sep s))
 -- where the field that begins at a place ends
 abbrev pub fieldEnd : ℕ → List ℕ → ℕ → ℕ
 fieldEnd sep s from = from + span sep (drop from s)
+
+-- bit patterns of 32 bits
+abbrev pub AreBits : List ℕ → Type 0
+AreBits [] = Unit
+AreBits (p ∷ ps) = (p < 2 ^ 32) × AreBits ps
