@@ -27,11 +27,11 @@ read-decimal-below (suc m) n h =
     ⊎-elim
     (λ (few : n < 10). ap (readIn 10) (decimal-few n few) ∙ read-one n few)
     (λ (many : 10 ≤ n).
-      ap (readIn 10) (decimal-more n many)
-      ∙ read-last 10 (decimal (n / 10)) (digit (n % 10))
-      ∙ ap (λ (a : Digits). push 10 a (digit (n % 10))) (read-decimal-below m (n / 10) (omega arith))
-      ∙ push-digit 10 (lit< tt) (lit≤ tt) (n / 10) (n % 10) (omega arith)
-      ∙ ap all-good (div-add-mod' n 10))
+    ap (readIn 10) (decimal-more n many)
+    ∙ read-last 10 (decimal (n / 10)) (digit (n % 10))
+    ∙ ap (λ (a : Digits). push 10 a (digit (n % 10))) (read-decimal-below m (n / 10) (omega arith))
+    ∙ push-digit 10 (lit< tt) (lit≤ tt) (n / 10) (n % 10) (omega arith)
+    ∙ ap all-good (div-add-mod' n 10))
     (lt-or-le n 10)
 
 pub read-decimal : (n : ℕ) → readIn 10 (decimal n) ≡ all-good n
@@ -48,8 +48,8 @@ begins-below (suc m) n h some e =
     ⊎-elim
     (λ (few : n < 10). omega (arith, zero-digit n few, sym (ap (λ (s : List ℕ). getD s 0 0) (decimal-few n few)) ∙ e))
     (λ (many : 10 ≤ n).
-      begins-below m (n / 10) (omega arith) (omega arith)
-      (sym (ap (λ (s : List ℕ). getD s 0 0) (decimal-more n many) ∙ List·getD-append (decimal (n / 10)) _ 0 0 (omega (arith, length-positive (n / 10)))) ∙ e))
+    begins-below m (n / 10) (omega arith) (omega arith)
+    (sym (ap (λ (s : List ℕ). getD s 0 0) (decimal-more n many) ∙ List·getD-append (decimal (n / 10)) _ 0 0 (omega (arith, length-positive (n / 10)))) ∙ e))
     (lt-or-le n 10)
 
 pub leads-decimal : (n : ℕ) → leads (decimal n) ≡ true
@@ -115,8 +115,9 @@ count-exact limit s =
     let n = length s in
     chosen (λ (d : Digits). d .good ≡ true → (s ≡ decimal (d .value)) × (length s ≤ limit) × (length s ≤ 9)) (leb 1 n && leb n limit && leb n 9) (record { good = readIn 10 s .good && leads s; value = readIn 10 s .value }) noDigits
     (λ e good.
-      let front = and-left (leb 1 n && leb n limit) (leb n 9) e in
-      (decimal-read s (and-left (readIn 10 s .good) (leads s) good) (and-right (readIn 10 s .good) (leads s) good) (leb-true 1 n (and-left (leb 1 n) (leb n limit) front)),
+    let front = and-left (leb 1 n && leb n limit) (leb n 9) e in (
+      decimal-read s (and-left (readIn 10 s .good) (leads s) good) (and-right (readIn 10 s .good) (leads s) good) (leb-true 1 n (and-left (leb 1 n) (leb n limit) front)),
       leb-true n limit (and-right (leb 1 n) (leb n limit) front),
-      leb-true n 9 (and-right (leb 1 n && leb n limit) (leb n 9) e)))
+      leb-true n 9 (and-right (leb 1 n && leb n limit) (leb n 9) e),
+    ))
     (λ e good. absurd (false≢true good))

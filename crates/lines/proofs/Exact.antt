@@ -69,9 +69,10 @@ module _ (base : ℕ) (some : 0 < base) (few : base ≤ 16) where
       let long : length (s ++ (b ∷ [])) ≡ suc (length s) = length-append s (b ∷ []) ∙ add-one (length s) in
       let m : d % 16 ≡ d = mod-eq-of-lt (omega arith) in
       let value : readIn base (s ++ (b ∷ [])) .value ≡ a .value * base + d = ap (λ (x : Digits). x .value) last ∙ ap (λ (r : ℕ). a .value * base + r) m in
-      let most : suc (a .value) * base ≤ base ^ length s * base = mul-le-mul-right base (was .1) in
-      (rw (long, value, numeral-last (length s) (a .value) d low, digit-of-value b (omega arith)) (ap (λ (t : List ℕ). t ++ (b ∷ [])) (was .0)),
-      rw (long, value, pow-suc) (omega (arith, suc-mul (a .value) base)))
+      let most : suc (a .value) * base ≤ base ^ length s * base = mul-le-mul-right base (was .1) in (
+        rw (long, value, numeral-last (length s) (a .value) d low, digit-of-value b (omega arith)) (ap (λ (t : List ℕ). t ++ (b ∷ [])) (was .0)),
+        rw (long, value, pow-suc) (omega (arith, suc-mul (a .value) base)),
+      )
 
   pub numeral-read : (s : List ℕ) → Spelt s
   unfolding Spelt numeral pushAll
@@ -91,9 +92,9 @@ hex-exact s =
     let n = length s in
     chosen (λ (d : Digits). d .good ≡ true → (s ≡ numeral 16 8 (d .value)) × (d .value < 2 ^ 32)) (eight n) (readIn 16 s) noDigits
     (λ e good.
-      let full : n ≡ 8 =
-          omega (arith, leb-true n 8 (and-right (leb 8 n) (leb n 8) (and-left (leb 8 n && leb n 8) (leb n 16) e)), leb-true 8 n (and-left (leb 8 n) (leb n 8) (and-left (leb 8 n && leb n 8) (leb n 16) e)))
-      in
-      let was = numeral-read 16 (lit< tt) (lit≤ tt) s good in
-      (was .0 ∙ ap (λ (k : ℕ). numeral 16 k (readIn 16 s .value)) full, subst (λ (k : ℕ). readIn 16 s .value < 16 ^ k) full (was .1)))
+    let full : n ≡ 8 =
+    omega (arith, leb-true n 8 (and-right (leb 8 n) (leb n 8) (and-left (leb 8 n && leb n 8) (leb n 16) e)), leb-true 8 n (and-left (leb 8 n) (leb n 8) (and-left (leb 8 n && leb n 8) (leb n 16) e)))
+    in
+    let was = numeral-read 16 (lit< tt) (lit≤ tt) s good in
+    (was .0 ∙ ap (λ (k : ℕ). numeral 16 k (readIn 16 s .value)) full, subst (λ (k : ℕ). readIn 16 s .value < 16 ^ k) full (was .1)))
     (λ e good. absurd (false≢true good))

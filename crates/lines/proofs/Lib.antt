@@ -9,3 +9,4 @@ mod Exact
 mod Counts
 mod Rows
 pub mod Records
+pub mod Listings

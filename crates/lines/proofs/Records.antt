@@ -48,16 +48,16 @@ record-exact s w =
     let t = eqb (getD s 0 0) 87 in
     chosen (λ (a : Asked). a ≡ Record w → ReadFrom s w) (eqb (length s) 64) (choose (allGood t fs) (Record (walkOf (bitsOf fs))) NoRecord) NoRecord
     (λ long.
-      let l : length s ≡ 64 = eqb-true (length s) 64 long in
-      chosen (λ (a : Asked). a ≡ Record w → ReadFrom s w) (allGood t fs) (Record (walkOf (bitsOf fs))) NoRecord
-      (λ good e.
-        let was = rows-exact 7 t (drop 1 s) (omega (arith, length-drop 1 s)) good in
-        record {
-          patterns = bitsOf fs;
-          seven = length-bits 7 (drop 1 s);
-          bits = was .2;
-          line = from-front s l (bitsOf fs) (eqb-true (getD s 0 0) 87 (was .0)) (was .1);
-          floats = cc
-        })
-      (λ bad e. let z : _≡_ {A = ℕ} 0 1 = cc in absurd (omega arith)))
+    let l : length s ≡ 64 = eqb-true (length s) 64 long in
+    chosen (λ (a : Asked). a ≡ Record w → ReadFrom s w) (allGood t fs) (Record (walkOf (bitsOf fs))) NoRecord
+    (λ good e.
+    let was = rows-exact 7 t (drop 1 s) (omega (arith, length-drop 1 s)) good in
+    record {
+      patterns = bitsOf fs;
+      seven = length-bits 7 (drop 1 s);
+      bits = was .2;
+      line = from-front s l (bitsOf fs) (eqb-true (getD s 0 0) 87 (was .0)) (was .1);
+      floats = cc;
+    })
+    (λ bad e. let z : _≡_ {A = ℕ} 0 1 = cc in absurd (omega arith)))
     (λ short e. let z : _≡_ {A = ℕ} 0 1 = cc in absurd (omega arith))

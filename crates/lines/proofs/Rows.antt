@@ -67,10 +67,11 @@ unfolding tabbeds allGood bitsOf
 rows-exact zero t s e good = (good, empty s (omega arith), tt)
 rows-exact (suc k) t s e good =
     let was = rows-exact k (t && tabbed s .good) (drop 9 s) (omega (arith, length-drop 9 s)) good in
-    let one = tabbed-exact s (and-right t (tabbed s .good) (was .0)) in
-    (and-left t (tabbed s .good) (was .0),
-    sym (take-append-drop 9 s) ∙ ap (λ (l : List ℕ). l ++ drop 9 s) (one .0) ∙ ap (λ (l : List ℕ). (9 ∷ hex (tabbed s .bits)) ++ l) (was .1),
-    (one .1, was .2))
+    let one = tabbed-exact s (and-right t (tabbed s .good) (was .0)) in (
+      and-left t (tabbed s .good) (was .0),
+      sym (take-append-drop 9 s) ∙ ap (λ (l : List ℕ). l ++ drop 9 s) (one .0) ∙ ap (λ (l : List ℕ). (9 ∷ hex (tabbed s .bits)) ++ l) (was .1),
+      (one .1, was .2),
+    )
 
 pub length-bits : (k : ℕ) (s : List ℕ) → length (bitsOf (tabbeds k s)) ≡ k
 unfolding tabbeds bitsOf

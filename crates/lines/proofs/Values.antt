@@ -16,7 +16,7 @@ value-of-digit d h =
     ⊎-elim
     (λ (low : d < 10). simp (lt-ltb d 10 low, le-leb 48 (48 + d) (omega arith), le-leb (48 + d) 57 (omega arith)) (omega arith))
     (λ (high : 10 ≤ d).
-      simp (le-ltb d 10 high, le-leb 48 (87 + d) (omega arith), lt-leb (87 + d) 57 (omega arith), le-leb 97 (87 + d) (omega arith), le-leb (87 + d) 102 (omega arith)) (omega arith))
+    simp (le-ltb d 10 high, le-leb 48 (87 + d) (omega arith), lt-leb (87 + d) 57 (omega arith), le-leb 97 (87 + d) (omega arith), le-leb (87 + d) 102 (omega arith)) (omega arith))
     (lt-or-le d 10)
 
 pub digit-of-value : (b : ℕ) → valueOf b < 16 → digit (valueOf b) ≡ b
@@ -24,15 +24,15 @@ unfolding digit valueOf
 digit-of-value b =
     chosen (λ (v : ℕ). v < 16 → digit v ≡ b) (leb 48 b && leb b 57) (b - 48) (choose (leb 97 b && leb b 102) (b - 87) 16)
     (λ e h.
-      let low : 48 ≤ b = leb-true 48 b (and-left (leb 48 b) (leb b 57) e) in
-      let high : b ≤ 57 = leb-true b 57 (and-right (leb 48 b) (leb b 57) e) in
-      simp (lt-ltb (b - 48) 10 (omega arith)) (omega arith))
+    let low : 48 ≤ b = leb-true 48 b (and-left (leb 48 b) (leb b 57) e) in
+    let high : b ≤ 57 = leb-true b 57 (and-right (leb 48 b) (leb b 57) e) in
+    simp (lt-ltb (b - 48) 10 (omega arith)) (omega arith))
     (λ e.
-      chosen (λ (v : ℕ). v < 16 → digit v ≡ b) (leb 97 b && leb b 102) (b - 87) 16
-      (λ e′ h.
-        let low : 97 ≤ b = leb-true 97 b (and-left (leb 97 b) (leb b 102) e′) in
-        simp (le-ltb (b - 87) 10 (omega arith)) (omega arith))
-      (λ e′ h. absurd (omega arith)))
+    chosen (λ (v : ℕ). v < 16 → digit v ≡ b) (leb 97 b && leb b 102) (b - 87) 16
+    (λ e′ h.
+    let low : 97 ≤ b = leb-true 97 b (and-left (leb 97 b) (leb b 102) e′) in
+    simp (le-ltb (b - 87) 10 (omega arith)) (omega arith))
+    (λ e′ h. absurd (omega arith)))
 
 -- what holds of no bytes, and of one byte more wherever it holds, holds of every text
 onward : (P : List ℕ → Type 0) → ((s : List ℕ) (b : ℕ) → P s → P (s ++ (b ∷ []))) → (t s : List ℕ) → P s → P (s ++ t)
