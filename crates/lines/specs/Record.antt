@@ -6,6 +6,9 @@ use mathlib.Core.List.{List, [], _∷_, map}
 use lib.Dec.{eqb}
 use lib.Ieee.{Float, binary32, ofBits}
 use lib.ListN.{length, getD, drop}
+use Rattle.numbers.specs.Patterns.{patternOf}
+use Rattle.numbers.specs.declared.patterns.Pattern.{Pattern}
+use Rattle.numbers.specs.declared.patterns.Pattern.the-variants.{Bits, NotANumber}
 use Rattle.lines.specs.Digits.{choose, hex}
 use Rattle.lines.specs.Fields.{tab, parted}
 use Rattle.lines.specs.Parts.{tabbeds, allGood, bitsOf}
@@ -32,3 +35,11 @@ recordOf s =
     choose (eqb (length s) 64)
     (choose (allGood (eqb (getD s 0 0) 87) (tabbeds 7 (drop 1 s))) (Record (walkOf (bitsOf (tabbeds 7 (drop 1 s))))) NoRecord)
     NoRecord
+
+-- the bits of a float; a NaN has none of its own, and is shown as the usual one
+abbrev pub shown : Pattern → ℕ
+shown (Bits b) = b
+shown NotANumber = 0x7fc0_0000
+
+abbrev pub shownBits : Float → ℕ
+shownBits x = shown (patternOf x)

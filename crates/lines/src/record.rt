@@ -1,8 +1,9 @@
-// The walk printer's input: a line read as a record.
+// The walk printer's input: a line read as a record. And the bits by which a float is written.
 use crate::fields;
 use numbers::patterns;
+use numbers::patterns::Pattern;
 ghost use mathlib.Core.Path.{_≡_};
-ghost use Rattle.lines.specs.Record.{recordOf};
+ghost use Rattle.lines.specs.Record.{recordOf, shownBits};
 
 // Three coordinates, in metres.
 pub struct Place {
@@ -56,5 +57,15 @@ pub fn record_of(s: &[u8]) -> Asked
         })
     } else {
         Asked::NoRecord
+    }
+}
+
+// The bits by which a float is written; those of the usual NaN for every NaN.
+pub fn bits_of(x: f32) -> u32
+    ensures { λ r. ⌜ r ≡ shownBits x ⌝ }
+{
+    match patterns::pattern_of(x) {
+        Pattern::Bits(bits) => bits,
+        Pattern::NotANumber => 0x7fc0_0000,
     }
 }
