@@ -1,15 +1,19 @@
 -- Digits are read one byte after the other: what is left from i on by its first byte and what is left from i + 1 on, and how large the number gets.
 use mathlib.Core.Path.{_≡_, refl, ap, _∙_, sym, subst}
+use mathlib.Core.Bool.{Bool, true, false, _&&_}
 use mathlib.Core.List.{List, [], _∷_}
 use Prim.Native.Nat.{ℕ, suc, _+_, _*_, _%_, _≤_, _<_, _^_}
-use native.Mathlib.Nat.{pow-suc, mul-le-mul-left, mod-lt, pow-le-pow-right}
+use native.Mathlib.Nat.{pow-zero, pow-suc, pow-succ', mul-one, mul-assoc, add-zero, mul-le-mul-left, mod-lt, pow-le-pow-right}
 use native.Mathlib.Numerals.{add-one}
 use native.Mathlib.Omega.{arith}
-use lib.Dec.{lit<}
+use lib.Dec.{leb, lit<, lit≤}
+use borrow.Author.Tests.{leb-true, eq-eqb, ne-eqb}
 use lib.ListN.{length, getD, drop, drop-of-length-le}
 use lib.Seq.{drop-cons}
 use Rattle.lines.specs.declared.digits.Digits.{Digits}
-use Rattle.lines.specs.Digits.{valueOf, push, pushAll}
+use Rattle.lines.specs.Digits.{valueOf, push, pushAll, nothingYet, readIn, noDigits, leads, hexOf, countOf}
+use Rattle.lines.specs.Fields.{span}
+use Rattle.lines.proofs.Flags.{and-left, and-right, chosen}
 
 module _ (s : List ℕ) (i : ℕ) (h : i < length s) where
   from-on : drop i s ≡ getD s i 0 ∷ drop (i + 1) s
@@ -18,6 +22,18 @@ module _ (s : List ℕ) (i : ℕ) (h : i < length s) where
   pub read-step : (base : ℕ) (a : Digits) → pushAll base a (drop i s) ≡ pushAll base (push base a (getD s i 0)) (drop (i + 1) s)
   unfolding pushAll
   read-step base a = ap (pushAll base a) from-on
+
+  pub span-stop : (sep : ℕ) → getD s i 0 ≡ sep → span sep (drop i s) ≡ 0
+  unfolding span
+  span-stop sep e = ap (span sep) from-on ∙ simp (eq-eqb _ sep e)
+
+  pub span-step : (sep : ℕ) → (getD s i 0 ≡ sep → ⊥) → span sep (drop i s) ≡ span sep (drop (i + 1) s) + 1
+  unfolding span
+  span-step sep n = ap (span sep) from-on ∙ simp (ne-eqb _ sep n, add-one)
+
+pub span-end : (s : List ℕ) (i : ℕ) → length s ≤ i → (sep : ℕ) → span sep (drop i s) ≡ 0
+unfolding span
+span-end s i h sep = ap (span sep) (drop-of-length-le s h)
 
 pub read-end : (s : List ℕ) (i : ℕ) → length s ≤ i → (base : ℕ) (a : Digits) → pushAll base a (drop i s) ≡ a
 unfolding pushAll
@@ -36,3 +52,47 @@ pub room : (v k : ℕ) → v < 16 ^ k → k < 16 → v < 2 ^ 60
 room v k below few =
     let m : 16 ^ k ≤ 16 ^ 15 = pow-le-pow-right (lit< tt) {i = k} {j = 15} (omega arith) in
     omega arith
+
+pub read-below : (base : ℕ) (s : List ℕ) (a : Digits) (k : ℕ) → base ≤ 16 → a .value < 16 ^ k → pushAll base a s .value < 16 ^ (k + length s)
+unfolding pushAll
+read-below base [] a k small below = rw add-zero below
+read-below base (b ∷ s) a k small below =
+    let e : k + 1 + length s ≡ k + suc (length s) = omega arith in
+    subst (λ (m : ℕ). pushAll base (push base a b) s .value < 16 ^ m) e
+    (read-below base s (push base a b) (k + 1) small (push-below base a b k small below))
+
+push-ten-below : (a : Digits) (b m : ℕ) → 9 * a .value + 15 ≤ 15 * m → 9 * push 10 a b .value + 15 ≤ 15 * (m * 10)
+unfolding push
+push-ten-below a b m h = omega arith
+
+-- k bytes read as decimal digits: each counts at most 15
+pub read-ten-below : (s : List ℕ) (a : Digits) (m : ℕ) → 9 * a .value + 15 ≤ 15 * m → 9 * pushAll 10 a s .value + 15 ≤ 15 * (m * 10 ^ length s)
+unfolding pushAll
+read-ten-below [] a m h = rw (pow-zero, mul-one) h
+read-ten-below (b ∷ s) a m h =
+    let e : m * 10 * 10 ^ length s ≡ m * 10 ^ suc (length s) = mul-assoc m 10 (10 ^ length s) ∙ ap (λ (p : ℕ). m * p) (sym (pow-succ' 10 (length s))) in
+    subst (λ (n : ℕ). 9 * pushAll 10 (push 10 a b) s .value + 15 ≤ 15 * n) e
+    (read-ten-below s (push 10 a b) (m * 10) (push-ten-below a b m h))
+
+-- eight hex digits and a count fit 32 bits
+pub hex-fits : (s : List ℕ) → hexOf 8 8 s .value < 2 ^ 32
+unfolding hexOf
+hex-fits s =
+    let n = length s in
+    chosen (λ (d : Digits). d .value < 2 ^ 32) (leb 8 n && leb n 8 && leb n 16) (readIn 16 s) noDigits
+    (λ e.
+    let few : n ≤ 8 = leb-true n 8 (and-right (leb 8 n) (leb n 8) (and-left (leb 8 n && leb n 8) (leb n 16) e)) in
+    let most : 16 ^ (0 + n) ≤ 16 ^ 8 = pow-le-pow-right (lit< tt) {i = 0 + n} {j = 8} (omega arith) in
+    omega (arith, read-below 16 s nothingYet 0 (lit≤ tt) (lit< tt)))
+    (λ e. lit< tt)
+
+pub count-fits : (limit : ℕ) (s : List ℕ) → countOf limit s .value < 2 ^ 32
+unfolding countOf
+count-fits limit s =
+    let n = length s in
+    chosen (λ (d : Digits). d .value < 2 ^ 32) (leb 1 n && leb n limit && leb n 9) (record { good = readIn 10 s .good && leads s; value = readIn 10 s .value }) noDigits
+    (λ e.
+    let few : n ≤ 9 = leb-true n 9 (and-right (leb 1 n && leb n limit) (leb n 9) e) in
+    let most : 10 ^ n ≤ 10 ^ 9 = pow-le-pow-right (lit< tt) {i = n} {j = 9} few in
+    omega (arith, read-ten-below s nothingYet 1 (lit≤ tt)))
+    (λ e. lit< tt)

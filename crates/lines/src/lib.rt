@@ -1,2 +1,6 @@
 // Text on slices: hex and decimal digits, fields, the walk printer's record and its listing lines.
 pub mod digits;
+pub mod fields;
+pub mod listed;
+mod put;
+pub mod record;

@@ -1,0 +1,60 @@
+// Fields parted by a separator byte: a tab for the walk printer, a blank for operation lines.
+use crate::digits;
+ghost use mathlib.Core.Path.{_≡_};
+ghost use Prim.Native.Nat.{_+_, _≤_};
+ghost use lib.ListN.{length, drop};
+ghost use Rattle.lines.specs.Fields.{fieldEnd};
+ghost use Rattle.lines.specs.Parts.{tabbed, shortOf};
+
+// A number read from a field, and whether the field was good.
+pub struct Field {
+    pub good: bool,
+    pub bits: u32,
+}
+
+// The place of the first separator from `from` on, or the end.
+pub fn field_end(s: &[u8], from: usize, separator: u8) -> usize
+    ensures { λ r. ⌜ r ≡ fieldEnd separator (now (s .entry)) from ⌝ }
+{
+    let mut i = from;
+    while i < s.len() {
+        if s[i] == separator {
+            return i;
+        }
+        i += 1;
+    }
+    i
+}
+
+// The tab at a place and the eight hex digits after it.
+pub(crate) fn tabbed(s: &[u8], at: usize) -> Field
+    requires { ⌜ at + 9 ≤ length (now s) ⌝ }
+    ensures { λ r. ⌜ r ≡ tabbed (drop at (now (s .entry))) ⌝ }
+{
+    let a = at + 1;
+    let e = at + 9;
+    let d = digits::hex(&s[a..e], 8, 8);
+    Field {
+        good: (s[at] == 9) & d.good,
+        bits: d.value as u32,
+    }
+}
+
+// A line of a letter, a tab and a count, apart from which letter it is.
+pub(crate) fn short_of(s: &[u8], limit: usize) -> Field
+    ensures { λ r. ⌜ r ≡ shortOf limit (now (s .entry)) ⌝ }
+{
+    let n = s.len();
+    if n < 2 {
+        return Field {
+            good: false,
+            bits: 0,
+        };
+    }
+    let a: usize = 2;
+    let d = digits::count(&s[a..n], limit);
+    Field {
+        good: (s[1] == 9) & d.good,
+        bits: d.value as u32,
+    }
+}

@@ -1,0 +1,206 @@
+// The lines of a listing: written into a lent buffer, and read back.
+use crate::digits;
+use crate::fields;
+use crate::fields::Field;
+use crate::put;
+ghost use mathlib.Core.Path.{_≡_};
+ghost use mathlib.Core.List.{[]};
+ghost use Prim.Native.Nat.{_+_, _≤_};
+ghost use lib.ListN.{length, getD};
+ghost use Rattle.lines.specs.Digits.{choose};
+ghost use Rattle.lines.specs.Reading.{named, headerOf, moveOf, found, lineOf};
+ghost use Rattle.lines.specs.Stored.{Stored};
+ghost use Rattle.lines.specs.Lines.{written, ended, lettered, hasRoom};
+
+// A step that moved: its count from 1, and the new point as bit patterns.
+pub struct Moved {
+    pub count: u32,
+    pub x: u32,
+    pub y: u32,
+    pub z: u32,
+}
+
+// A line of a listing: the header with its version, a step, the count of a walk that arrived, a refusal's number.
+pub enum Line {
+    Header(u32),
+    Move(Moved),
+    Arrived(u32),
+    Refused(u32),
+}
+
+// What a line read back is.
+pub enum Found {
+    Known(Line),
+    NoLine,
+}
+
+// A step's line.
+pub(crate) fn put_move(buf: &mut [u8], at: usize, m: Moved) -> usize
+    requires { ⌜ at + 40 ≤ length (now buf) ⌝ }
+    ensures { λ r. ⌜ Stored (now (buf .entry)) at (written (Line.Move m)) r (now (buf .exit)) ⌝ }
+{
+    let a = put::letter(buf, at, b'M');
+    let b = put::count(buf, a, m.count);
+    let x = put::pattern(buf, b, m.x);
+    let y = put::pattern(buf, x, m.y);
+    let z = put::pattern(buf, y, m.z);
+    put::newline(buf, z)
+}
+
+// A line of a letter and a number.
+pub(crate) fn put_short(buf: &mut [u8], at: usize, letter: u8, n: u32) -> usize
+    requires { ⌜ at + 40 ≤ length (now buf) ⌝ }
+    ensures { λ r. ⌜ Stored (now (buf .entry)) at (ended (lettered letter n)) r (now (buf .exit)) ⌝ }
+{
+    let a = put::letter(buf, at, letter);
+    let b = put::count(buf, a, n);
+    put::newline(buf, b)
+}
+
+// The header.
+pub(crate) fn put_header(buf: &mut [u8], at: usize, version: u32) -> usize
+    requires { ⌜ at + 40 ≤ length (now buf) ⌝ }
+    ensures { λ r. ⌜ Stored (now (buf .entry)) at (written (Line.Header version)) r (now (buf .exit)) ⌝ }
+{
+    let a = put::name(buf, at);
+    let b = put::count(buf, a, version);
+    put::newline(buf, b)
+}
+
+// A line with its newline, stored from `at` on; gives the place after it. No line is longer than 40 bytes: where the
+// buffer has not that much room, nothing is stored and the place stays.
+pub fn put_line(buf: &mut [u8], at: usize, line: Line) -> usize
+    ensures { λ r. ⌜ Stored (now (buf .entry)) at (choose (hasRoom (now (buf .entry)) at) (written line) []) r (now (buf .exit)) ⌝ }
+{
+    let n = buf.len();
+    if n < 40 {
+        return at;
+    }
+    if n - 40 < at {
+        return at;
+    }
+    match line {
+        Line::Header(version) => put_header(buf, at, version),
+        Line::Move(m) => put_move(buf, at, m),
+        Line::Arrived(count) => put_short(buf, at, b'A', count),
+        Line::Refused(number) => put_short(buf, at, b'R', number),
+    }
+}
+
+// The first byte of a line, 0 where there is none.
+fn first(s: &[u8]) -> u8
+    ensures { λ r. ⌜ r ≡ getD (now (s .entry)) 0 0 ⌝ }
+{
+    if s.len() == 0 { 0 } else { s[0] }
+}
+
+// Whether a line begins with the header's name and a tab.
+fn named(s: &[u8]) -> bool
+    requires { ⌜ 12 ≤ length (now s) ⌝ }
+    ensures { λ r. ⌜ r ≡ named (now (s .entry)) ⌝ }
+{
+    (s[0] == b'h')
+        & (s[1] == b'o')
+        & (s[2] == b'p')
+        & (s[3] == b'p')
+        & (s[4] == b'e')
+        & (s[5] == b'r')
+        & (s[6] == b'-')
+        & (s[7] == b'w')
+        & (s[8] == b'a')
+        & (s[9] == b'l')
+        & (s[10] == b'k')
+        & (s[11] == 9)
+}
+
+// The header's version.
+fn header_of(s: &[u8]) -> Field
+    ensures { λ r. ⌜ r ≡ headerOf (now (s .entry)) ⌝ }
+{
+    let n = s.len();
+    if n < 12 {
+        return Field {
+            good: false,
+            bits: 0,
+        };
+    }
+    let a: usize = 12;
+    let d = digits::count(&s[a..n], 9);
+    Field {
+        good: named(s) & d.good,
+        bits: d.value as u32,
+    }
+}
+
+// The line of a step: its three patterns are the last 27 bytes.
+fn move_of(s: &[u8], limit: usize) -> Found
+    ensures { λ r. ⌜ r ≡ moveOf limit (now (s .entry)) ⌝ }
+{
+    let n = s.len();
+    if n < 29 {
+        return Found::NoLine;
+    }
+    let a: usize = 2;
+    let e = n - 27;
+    let d = digits::count(&s[a..e], limit);
+    let x = fields::tabbed(s, e);
+    let y = fields::tabbed(s, e + 9);
+    let z = fields::tabbed(s, e + 9 + 9);
+    if (s[0] == b'M') & (s[1] == 9) & d.good & x.good & y.good & z.good {
+        Found::Known(Line::Move(Moved {
+            count: d.value as u32,
+            x: x.bits,
+            y: y.bits,
+            z: z.bits,
+        }))
+    } else {
+        Found::NoLine
+    }
+}
+
+fn arrived(f: Field) -> Found
+    ensures { λ r. ⌜ r ≡ found Line.Arrived f ⌝ }
+{
+    if f.good {
+        Found::Known(Line::Arrived(f.bits))
+    } else {
+        Found::NoLine
+    }
+}
+
+fn refused(f: Field) -> Found
+    ensures { λ r. ⌜ r ≡ found Line.Refused f ⌝ }
+{
+    if f.good {
+        Found::Known(Line::Refused(f.bits))
+    } else {
+        Found::NoLine
+    }
+}
+
+fn headed(f: Field) -> Found
+    ensures { λ r. ⌜ r ≡ found Line.Header f ⌝ }
+{
+    if f.good {
+        Found::Known(Line::Header(f.bits))
+    } else {
+        Found::NoLine
+    }
+}
+
+// The line that some bytes are, without their newline. Counts have at most `limit` digits, and never more than nine.
+pub fn line_of(s: &[u8], limit: usize) -> Found
+    ensures { λ r. ⌜ r ≡ lineOf limit (now (s .entry)) ⌝ }
+{
+    let b = first(s);
+    if b == b'M' {
+        return move_of(s, limit);
+    }
+    if b == b'A' {
+        return arrived(fields::short_of(s, limit));
+    }
+    if b == b'R' {
+        return refused(fields::short_of(s, limit));
+    }
+    headed(header_of(s))
+}
