@@ -1,8 +1,13 @@
-// Entries for measuring and for exhaustive runs: numbers in, numbers out. Outside the face.
+// Entries for measuring and for exhaustive runs: numbers and slices of floats in and out. Outside the face.
+// A result of 0 to 99 is a refusal's number or 0 for an answer; a row that is too short gives 99; 256 is added where
+// something moved. Feet are eighteen floats in row order, x y z each.
 use hopper::numbers::Answer;
 
+mod feet;
+mod moves_probes;
+
 // The refusal's number, or 0 with the value stored.
-fn stored(answer: Answer, out: &mut f32) -> u32 {
+pub(crate) fn stored(answer: Answer, out: &mut f32) -> u32 {
     match answer {
         Answer::Value(v) => {
             *out = v;
@@ -15,4 +20,19 @@ fn stored(answer: Answer, out: &mut f32) -> u32 {
 #[no_mangle]
 pub extern "C" fn probe_absolute(x: f32, out: &mut f32) -> u32 {
     stored(hopper::numbers::absolute(x), out)
+}
+
+#[no_mangle]
+pub extern "C" fn probe_min(x: f32, y: f32, out: &mut f32) -> u32 {
+    stored(hopper::numbers::min(x, y), out)
+}
+
+#[no_mangle]
+pub extern "C" fn probe_max(x: f32, y: f32, out: &mut f32) -> u32 {
+    stored(hopper::numbers::max(x, y), out)
+}
+
+#[no_mangle]
+pub extern "C" fn probe_square_root(x: f32, out: &mut f32) -> u32 {
+    stored(hopper::numbers::square_root(x), out)
 }

@@ -1,0 +1,81 @@
+// Foot moves.
+use crate::feet;
+use crate::stored;
+use hopper::foot_moves::FeetStep;
+use hopper::foot_moves::FeetTowards;
+use hopper::foot_moves::MoveStep;
+use hopper::foot_moves::Towards;
+ghost use Prim.Native.Nat.{_≤_};
+ghost use lib.ListN.{length};
+
+fn store_step(s: MoveStep, out: &mut [f32]) -> u32
+    requires { ⌜ 3 ≤ length (now out) ⌝ }
+{
+    match s {
+        MoveStep::Moved(p) => {
+            feet::store_point(p, out, 0);
+            256
+        }
+        MoveStep::Arrived(p) => {
+            feet::store_point(p, out, 0);
+            0
+        }
+    }
+}
+
+// last, target, max move: seven floats in, three out.
+#[no_mangle]
+pub extern "C" fn probe_move(s: &[f32], out: &mut [f32]) -> u32 {
+    if s.len() < 7 {
+        return 99;
+    }
+    if out.len() < 3 {
+        return 99;
+    }
+    match hopper::foot_moves::move_towards(feet::point(s, 0), feet::point(s, 3), s[6]) {
+        Towards::Answered(step) => store_step(step, out),
+        Towards::Refused(n) => n,
+    }
+}
+
+fn store_feet_step(s: FeetStep, out: &mut [f32]) -> u32
+    requires { ⌜ 18 ≤ length (now out) ⌝ }
+{
+    match s {
+        FeetStep::Moved(f) => {
+            feet::store_feet(f, out);
+            256
+        }
+        FeetStep::Arrived(f) => {
+            feet::store_feet(f, out);
+            0
+        }
+    }
+}
+
+// last, target, max move: 37 floats in, 18 out.
+#[no_mangle]
+pub extern "C" fn probe_move_feet(s: &[f32], out: &mut [f32]) -> u32 {
+    if s.len() < 37 {
+        return 99;
+    }
+    if out.len() < 18 {
+        return 99;
+    }
+    match hopper::foot_moves::move_feet_towards(feet::feet(s, 0), feet::feet(s, 18), s[36]) {
+        FeetTowards::Answered(step) => store_feet_step(step, out),
+        FeetTowards::Refused(n) => n,
+    }
+}
+
+// Two rows: 36 floats in.
+#[no_mangle]
+pub extern "C" fn probe_longest_distance(s: &[f32], out: &mut f32) -> u32 {
+    if s.len() < 36 {
+        return 99;
+    }
+    stored(
+        hopper::foot_moves::longest_distance(feet::feet(s, 0), feet::feet(s, 18)),
+        out,
+    )
+}
