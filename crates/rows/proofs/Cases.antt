@@ -1,13 +1,13 @@
 -- Worked examples of the promise, document 01's p9 among them.
 use mathlib.Core.Path.{_≡_, refl}
-use mathlib.Core.List.{List, [], _∷_}
+use mathlib.Core.List.{[], _∷_}
 use Prim.Native.Nat.{ℕ, _+_}
 use lib.Count.{ones}
 use lib.Ieee.{Float, nan, binary32, ofBits, le, neg}
 use Rattle.numbers.specs.Told.{refused}
 use Rattle.numbers.specs.Door.{finite}
 use Rattle.numbers.specs.Limits.{foot, over, minus}
-use Rattle.legs.specs.Legs.{Leg, leftFront, rightFront, leftMiddle, rightMiddle, leftRear, rightRear, feet, finitePoint, permittedPoint}
+use Rattle.legs.specs.Legs.{leftFront, rightFront, rightMiddle, leftRear, feet, finitePoint, permittedPoint}
 use Rattle.legs.specs.Masks.{weight}
 use Rattle.legs.specs.Answers.{givenFeet}
 use Rattle.legs.specs.Update.{updated}

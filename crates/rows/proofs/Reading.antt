@@ -1,5 +1,5 @@
 -- A row is read point by point: what is remembered with one point more, and with all of them; and what stands in the six places.
-use mathlib.Core.Path.{_≡_, refl, sym, ap, ap₂, _∙_}
+use mathlib.Core.Path.{_≡_, refl, sym, ap, _∙_}
 use mathlib.Core.Bool.{Bool, true, false, _&&_, and-assoc, and-true}
 use mathlib.Core.List.{List, [], _∷_, _++_, append-assoc}
 use Prim.Native.Nat.{ℕ, suc, _+_, _-_, _<_, _≤_}
@@ -14,9 +14,8 @@ use Rattle.numbers.specs.Limits.{foot as footLimit}
 use Rattle.legs.specs.Legs.{origin, finitePoint, permittedPoint}
 use Rattle.legs.specs.Select.{inSix}
 use Rattle.legs.specs.declared.Point.{Point}
-use Rattle.rows.specs.declared.seen.Seen.{Seen}
 use Rattle.rows.specs.Rows.{everyPoint}
-use Rattle.rows.specs.How.{firstSix, seenOf, placed, noted}
+use Rattle.rows.specs.How.{firstSix, seenOf, noted}
 
 every-next : (t : Point → Bool) (xs : List Point) (p : Point) → (everyPoint t xs && t p) ≡ everyPoint t (xs ++ p ∷ [])
 unfolding everyPoint

@@ -1,5 +1,5 @@
 -- `rows::updated_from_first` meets its contract: the first n of 64 points, for n of 64 or more, are all of them.
-use mathlib.Core.Path.{_≡_, sym, ap, _∙_}
+use mathlib.Core.Path.{sym, ap, _∙_}
 use mathlib.Core.List.{List}
 use Prim.Native.Nat.{_≤_}
 use native.Mathlib.Omega.{arith}
