@@ -1,0 +1,10 @@
+pub mod Order
+pub mod Tables
+pub mod Polynomials
+pub mod Scale
+pub mod Grid
+pub mod Octant
+pub mod Circle
+pub mod Bounded
+pub mod Reflect
+pub mod Half
