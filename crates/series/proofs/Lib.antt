@@ -1,7 +1,9 @@
 pub mod Order
+pub mod Fractions
 pub mod Tables
 pub mod Polynomials
 pub mod Scale
+pub mod Literal
 pub mod Grid
 pub mod Octant
 pub mod Circle

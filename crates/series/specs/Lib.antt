@@ -1,1 +1,3 @@
+pub mod Fractions
+pub mod Series
 pub mod Working
