@@ -4,6 +4,8 @@ pub mod Tables
 pub mod Polynomials
 pub mod Scale
 pub mod Literal
+pub mod Parity
+pub mod NearestTables
 pub mod Grid
 pub mod Octant
 pub mod Circle
