@@ -9,6 +9,7 @@ pub mod NearestTables
 pub mod Grid
 pub mod Octant
 pub mod Circle
+pub mod Unit
 pub mod Bounded
 pub mod Reflect
 pub mod Half
