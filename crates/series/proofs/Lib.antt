@@ -2,6 +2,8 @@ pub mod Order
 pub mod Fractions
 pub mod Tables
 pub mod Polynomials
+pub mod Bivariate
+pub mod Addition
 pub mod Scale
 pub mod Literal
 pub mod Parity

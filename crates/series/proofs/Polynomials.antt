@@ -48,7 +48,7 @@ less [] q = []
 less (a ∷ ps) [] = a ∷ ps
 less (a ∷ ps) (b ∷ qs) = (a - b) ∷ less ps qs
 
-balance : (p q : List ℕ) (n : ℕ) → eval p n + eval (less q p) n ≡ eval q n + eval (less p q) n
+pub balance : (p q : List ℕ) (n : ℕ) → eval p n + eval (less q p) n ≡ eval q n + eval (less p q) n
 balance [] [] n = refl
 balance [] (b ∷ qs) n = omega arith
 balance (a ∷ ps) [] n = omega arith
