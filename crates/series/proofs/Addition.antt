@@ -31,21 +31,37 @@ unfolding denominator factorial
 FD = denominator 34359738368
 
 -- the four lists, with the powers of the denominator in them
-unfoldable sinP' : List ℕ
+unfoldable pub sinP' : List ℕ
 unfolding pw sinP
 sinP' = spread 34359738368 sinP
 
-unfoldable sinM' : List ℕ
+unfoldable pub sinM' : List ℕ
 unfolding pw sinM
 sinM' = spread 34359738368 sinM
 
-unfoldable cosP' : List ℕ
+unfoldable pub cosP' : List ℕ
 unfolding pw cosP
 cosP' = spread 34359738368 cosP
 
-unfoldable cosM' : List ℕ
+unfoldable pub cosM' : List ℕ
 unfolding pw cosM
 cosM' = spread 34359738368 cosM
+
+pub sp-is : (n : ℕ) → eval sinP' n ≡ fsp n
+unfolding sinP'
+sp-is n = ev-spread 34359738368 sinP n
+
+pub sm-is : (n : ℕ) → eval sinM' n ≡ fsm n
+unfolding sinM'
+sm-is n = ev-spread 34359738368 sinM n
+
+pub cp-is : (n : ℕ) → eval cosP' n ≡ fcp n
+unfolding cosP'
+cp-is n = ev-spread 34359738368 cosP n
+
+pub cm-is : (n : ℕ) → eval cosM' n ≡ fcm n
+unfolding cosM'
+cm-is n = ev-spread 34359738368 cosM n
 
 -- four products of one list at a and one at b, added
 abbrev four : List ℕ → List ℕ → List ℕ → List ℕ → List ℕ → List ℕ → List ℕ → List ℕ → List (List ℕ)
@@ -104,22 +120,6 @@ module _ (a b : ℕ) (ha : a ≤ 549755813888) (hb : b ≤ 4294967296) where
         under = subst₂ (λ (x y : ℕ). x ≤ y + FD * FD) el em (apart-le L M 549755813888 4294967296 (FD * FD) t1 a b ha hb);
         over = subst₂ (λ (x y : ℕ). x ≤ y + FD * FD) em el (apart-le M L 549755813888 4294967296 (FD * FD) t2 a b ha hb);
       }
-
-  sp-is : (n : ℕ) → eval sinP' n ≡ fsp n
-  unfolding sinP'
-  sp-is n = ev-spread 34359738368 sinP n
-
-  sm-is : (n : ℕ) → eval sinM' n ≡ fsm n
-  unfolding sinM'
-  sm-is n = ev-spread 34359738368 sinM n
-
-  cp-is : (n : ℕ) → eval cosP' n ≡ fcp n
-  unfolding cosP'
-  cp-is n = ev-spread 34359738368 cosP n
-
-  cm-is : (n : ℕ) → eval cosM' n ≡ fcm n
-  unfolding cosM'
-  cm-is n = ev-spread 34359738368 cosM n
 
   sp-close : Close (fsp a * fcp b + fsm a * fcm b + (fcp a * fsp b + fcm a * fsm b)) (fsp (a + b))
   sp-close =

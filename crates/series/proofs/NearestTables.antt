@@ -37,6 +37,11 @@ unfolding cosP cosM pw denominator
 cosineTable scale offset a b table = every (nearest (spread b cosP) (spread b cosM) (denominator b) scale offset a) 0 table
 
 -- ---- what the test says
+pub nearest-le : (p m : List ℕ) (d scale offset a k e : ℕ) → T (nearest p m d scale offset a k e)
+    → (2 * (e * d + scale * eval m (k * a)) ≤ 2 * (scale * eval p (k * a) + offset * d) + d) × (2 * (scale * eval p (k * a) + offset * d) ≤ 2 * (e * d + scale * eval m (k * a)) + d)
+nearest-le p m d scale offset a k e t =
+    (leb→le _ _ (both-l (low p m d scale offset a k e) (high p m d scale offset a k e) t), leb→le _ _ (both-r (low p m d scale offset a k e) (high p m d scale offset a k e) t))
+
 halves : (e o d p m : ℕ) → 2 * (e * d + m) ≤ 2 * (p + o * d) + d → 2 * (p + o * d) ≤ 2 * (e * d + m) + d → Within (1 ÷ 2) (whole e ⊖ whole o) (difference p m d)
 halves e o d p m h k = (omega arith, omega arith)
 
@@ -63,11 +68,10 @@ module _ (f : Fraction → Fraction) (p m : List ℕ) (a b : ℕ) (pos : 0 < b)
       let d = denominator b in
       let P = spread b p in
       let M = spread b m in
-      let l : 2 * (e * d + scale * eval M (k * a)) ≤ 2 * (scale * eval P (k * a) + offset * d) + d = leb→le _ _ (both-l (low P M d scale offset a k e) (high P M d scale offset a k e) t) in
-      let h : 2 * (scale * eval P (k * a) + offset * d) ≤ 2 * (e * d + scale * eval M (k * a)) + d = leb→le _ _ (both-r (low P M d scale offset a k e) (high P M d scale offset a k e) t) in
+      let l = nearest-le P M d scale offset a k e t in
       within-same (1 ÷ 2) (1 ÷ 2) (whole e ⊖ whole offset) (whole e ⊖ whole offset) (difference (scale * ev b (k * a) p) (scale * ev b (k * a) m) d) (whole scale ⊗ f (whole k ⊗ (a ÷ b)))
       (lit< {m = 0} {n = 2} tt) (lit< {m = 0} {n = 1} tt) (denominator-pos b pos) refl refl (scaled scale k)
-      (halves e offset d (scale * ev b (k * a) p) (scale * ev b (k * a) m) (rw (ev-spread b p (k * a), ev-spread b m (k * a)) at l) (rw (ev-spread b p (k * a), ev-spread b m (k * a)) at h))
+      (halves e offset d (scale * ev b (k * a) p) (scale * ev b (k * a) m) (rw (ev-spread b p (k * a), ev-spread b m (k * a)) at (l .0)) (rw (ev-spread b p (k * a), ev-spread b m (k * a)) at (l .1)))
 
 pub sine-nearest : (scale offset a b : ℕ) (table : List ℕ) → 0 < b → T (sineTable scale offset a b table) → NearestTable S scale offset (a ÷ b) table
 unfolding sineTable NearestTable
