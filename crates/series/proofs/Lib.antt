@@ -11,6 +11,7 @@ pub mod NearestTables
 pub mod Grid
 pub mod Octant
 pub mod Circle
+pub mod AtMostOne
 pub mod Unit
 pub mod Bounded
 pub mod Reflect
