@@ -216,7 +216,7 @@ module _ (a b : ℕ) (ca : Circle 68719476736 FD (fcp a) (fcm a) (fsp a) (fsm a)
       (circle-dist 68719476736 FD (fcp a) (fcm a) (fsp a) (fsm a) ca) (circle-dist 1099511627776 FD (fcp b) (fcm b) (fsp b) (fsm b) cb)
 
 -- ---- p - m is at most 1, nearly
-FD-pos : 0 < FD
+pub FD-pos : 0 < FD
 unfolding FD denominator factorial
 FD-pos = lit< {m = 0} {n = denominator 34359738368} tt
 

@@ -96,3 +96,10 @@ within-same e e' a a' b b' i j k g h l w = (
   le-same a a' (b ⊕ e) (b' ⊕ e') j (mul-pos k i) h (sum-same b b' e e' l g) (w .0),
   le-same b b' (a ⊕ e) (a' ⊕ e') k (mul-pos j i) l (sum-same a a' e e' h g) (w .1),
 )
+
+pub within-negative : (e a b : Fraction) → Within e a b → Within e (negative a) (negative b)
+within-negative e a b w =
+    (go (b .minus) (b .plus) (b .over) (a .plus) (a .minus) (a .over) (e .plus) (e .minus) (e .over) (w .1), go (a .minus) (a .plus) (a .over) (b .plus) (b .minus) (b .over) (e .plus) (e .minus) (e .over) (w .0))
+  where
+    go : (m p d q n f x y z : ℕ) → p * (f * z) + (n * z + y * f) * d ≤ (q * z + x * f) * d + m * (f * z) → n * (d * z) + (p * z + y * d) * f ≤ (m * z + x * d) * f + q * (d * z)
+    go m p d q n f x y z h = omega arith
