@@ -1,0 +1,4 @@
+pub mod Fractions
+pub mod Series
+pub mod Tables
+pub mod Working

@@ -1,0 +1,18 @@
+-- Where nothing is refused the argument is permitted. Assumes nothing.
+use Prim.Native.Nat.{ℕ}
+use mathlib.Core.Path.{_≡_}
+use mathlib.Core.Bool.{Bool, true, false}
+use native.Mathlib.Omega.{arith}
+use lib.Dec.{T}
+use lib.Ieee.{Float}
+use Rattle.numbers.specs.Door.{finite, permits, unless, either}
+use Rattle.numbers.specs.Limits.{sineArgument}
+use Rattle.sines.specs.Entries.{refusal}
+
+neither : (a b : Bool) → either (unless a 1) (unless b 2) ≡ 0 → T b
+neither true true h = tt
+neither true false h = absurd (omega arith)
+neither false b h = absurd (omega arith)
+
+pub taken-permitted : (x : Float) → refusal x ≡ 0 → T (permits sineArgument x)
+taken-permitted x h = neither (finite x) (permits sineArgument x) h

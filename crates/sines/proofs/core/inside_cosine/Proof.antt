@@ -1,0 +1,43 @@
+-- `sines::core::inside_cosine` meets its contract. A permitted argument has a bit pattern of at most that of 16, and the whole-number cosine stays from -1 to 1.
+use borrow.Author.Needs.{needs}
+use mathlib.Core.Path.{_≡_, sym, ap, _∙_, subst}
+use Prim.Native.Nat.{ℕ, _≤_}
+use lib.Dec.{T}
+use lib.Ieee.{Float, binary32, fits, ofBits}
+use Rattle.sines.specs.How.{fixedCosine, centred}
+use Rattle.sines.proofs.Values.{argument, no-nan}
+use Rattle.sines.proofs.Whole.{Result, cosine-result}
+use Rattle.sines.proofs.Sharp.{cosine-tiny, cosine-else}
+use Rattle.sines.proofs.core.inside_cosine.Statement.{statement}
+use Rattle.sines.proofs.core.inside_cosine.Tie as tie
+
+-- what owning an `f32` tells: the format holds it
+held : (c : tie.Start) → T (fits binary32 (c .args .x))
+held c = subst T (sym (c .good .0 .1)) tt
+
+float-to-bits-m : tie.Need-float-to-bits-m
+float-to-bits-m c = no-nan (c .args .x) (c .pre)
+
+returns : tie.Need-returns
+unfolding ofBits
+returns c = cosine-tiny (c .before .args .x) (c .if1 .taken)
+
+fixed-of-requires : tie.Need-fixed-of-requires
+fixed-of-requires c κs = (c .if1 .left, argument (c .before .args .x) (held (c .before)) (c .before .pre) .held .most)
+
+cosine-requires : tie.Need-cosine-requires
+cosine-requires c κs = search needs
+
+centred-requires : tie.Need-centred-requires
+centred-requires c κs =
+    let r = cosine-result (c .before .fixed-of .result) (c .before .fixed-of .ensures .1) in
+    let e = sym (c .cosine .ensures) in
+    (subst (λ (w : ℕ). 4194304 ≤ w) e (r .least), subst (λ (w : ℕ). w ≤ 37748736) e (r .most))
+
+returns-2 : tie.Need-returns-2
+returns-2 c =
+    let b = c .before .before in
+    c .centred .ensures ∙ ap centred (c .before .cosine .ensures ∙ ap fixedCosine (b .fixed-of .ensures .0)) ∙ cosine-else (b .before .before .args .x) (b .before .if1 .left)
+
+pub inside-cosine-spec : {M : Type 1} → statement M
+inside-cosine-spec = tie.close (tie.spec float-to-bits-m returns fixed-of-requires cosine-requires centred-requires returns-2)

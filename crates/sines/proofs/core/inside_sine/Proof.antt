@@ -1,0 +1,51 @@
+-- `sines::core::inside_sine` meets its contract. A permitted argument has a bit pattern of at most that of 16, and the whole-number sine stays from -1 to 1.
+use borrow.Author.Needs.{needs}
+use mathlib.Core.Path.{_≡_, sym, ap, _∙_, subst}
+use Prim.Native.Nat.{ℕ, _≤_, _<_}
+use lib.Dec.{T}
+use lib.Ieee.{Float, binary32, fits, neg, toBits}
+use Rattle.sines.specs.How.{bare, fixed, fixedSine, centred}
+use Rattle.sines.proofs.Values.{argument, no-nan}
+use Rattle.sines.proofs.Whole.{Result, sine-result}
+use Rattle.sines.proofs.Sharp.{sine-tiny, sine-negative, sine-positive}
+use Rattle.sines.proofs.core.inside_sine.Statement.{statement}
+use Rattle.sines.proofs.core.inside_sine.Tie as tie
+
+-- what owning an `f32` tells: the format holds it
+held : (c : tie.Start) → T (fits binary32 (c .args .x))
+held c = subst T (sym (c .good .0 .1)) tt
+
+float-to-bits-b : tie.Need-float-to-bits-b
+float-to-bits-b c = no-nan (c .args .x) (c .pre)
+
+returns : tie.Need-returns
+returns c = sine-tiny (c .before .args .x) (c .if1 .taken)
+
+fixed-of-requires : tie.Need-fixed-of-requires
+fixed-of-requires c κs = (c .if1 .left, argument (c .before .args .x) (held (c .before)) (c .before .pre) .held .most)
+
+sine-requires : tie.Need-sine-requires
+sine-requires c κs = search needs
+
+centred-requires : tie.Need-centred-requires
+centred-requires c κs =
+    let r = sine-result (c .before .fixed-of .result) (c .before .fixed-of .ensures .1) in
+    let e = sym (c .sine .ensures) in
+    (subst (λ (w : ℕ). 4194304 ≤ w) e (r .least), subst (λ (w : ℕ). w ≤ 37748736) e (r .most))
+
+returns-2 : tie.Need-returns-2
+returns-2 c =
+    let b = c .before .before .before in
+    let x = b .before .before .args .x in
+    let e : c .before .centred .result ≡ centred (fixedSine (fixed (bare x))) = c .before .centred .ensures ∙ ap centred (c .before .before .sine .ensures ∙ ap fixedSine (b .fixed-of .ensures .0)) in
+    ap neg e ∙ sine-negative x (b .before .if1 .left) (c .if2 .taken)
+
+returns-3 : tie.Need-returns-3
+returns-3 c =
+    let b = c .before .before .before in
+    let x = b .before .before .args .x in
+    let e : c .before .centred .result ≡ centred (fixedSine (fixed (bare x))) = c .before .centred .ensures ∙ ap centred (c .before .before .sine .ensures ∙ ap fixedSine (b .fixed-of .ensures .0)) in
+    e ∙ sine-positive x (b .before .if1 .left) (c .if2 .left)
+
+pub inside-sine-spec : {M : Type 1} → statement M
+inside-sine-spec = tie.close (tie.spec float-to-bits-b returns fixed-of-requires sine-requires centred-requires returns-2 returns-3)

@@ -1,0 +1,3 @@
+pub mod How
+pub mod Bands
+pub mod Entries

@@ -1,0 +1,103 @@
+// Sine and cosine in whole numbers: the argument in units of 2^-35 is whole eighths, whose sine and
+// cosine stand in the tables, and a rest, whose sine and cosine are polynomials.
+use crate::table;
+ghost use mathlib.Core.Path.{_≡_};
+ghost use Prim.Native.Nat.{_≤_, _<_};
+ghost use Rattle.sines.specs.How.{fixed, square, even, odd, sineSum, cosineSum, fixedSine, fixedCosine, centred};
+
+// The magnitude of an f32 from 2^-12 to 16 in units of 2^-35, from its bits without the sign.
+pub fn fixed_of(m: u32) -> u64
+    requires { ⌜ (964689920 ≤ m) × (m ≤ 1098907648) ⌝ }
+    ensures { λ r. ⌜ (r ≡ fixed m) × (r ≤ 549755813888) ⌝ }
+{
+    let k = (m / 0x80_0000 - 115) as u64;
+    let t = (0x80_0000 + m % 0x80_0000) as u64;
+    t << k
+}
+
+// The square of a rest, in units of 2^-38.
+fn square_of(r: u64) -> u64
+    requires { ⌜ r < 4294967296 ⌝ }
+    ensures { λ q. ⌜ (q ≡ square r) × (q < 4294967296) ⌝ }
+{
+    r * r / 0x1_0000_0000
+}
+
+// The cosine of a rest in units of 2^-32, from its square.
+fn even_part(q: u64) -> u64
+    requires { ⌜ q < 4294967296 ⌝ }
+    ensures { λ a. ⌜ (a ≡ even q) × (a ≤ 4294967296) ⌝ }
+{
+    let t = 33554432 - q * 43670 / 0x1_0000_0000;
+    0x1_0000_0000 - q * t / 0x1_0000_0000
+}
+
+// The sine of a rest in units of 2^-32, from it and its square.
+fn odd_part(r: u64, q: u64) -> u64
+    requires { ⌜ (r < 4294967296) × (q < 4294967296) ⌝ }
+    ensures { λ b. ⌜ (b ≡ odd r q) × (b ≤ 536870912) ⌝ }
+{
+    let t = 1398101 - q * 1092 / 0x1_0000_0000;
+    let u = 536870912 - q * t / 0x1_0000_0000;
+    r * u / 0x1_0000_0000
+}
+
+// sin(p + r) = sin p cos r + cos p sin r in units of 2^-24, plus 5 * 2^22; the first two in units of
+// 2^-30 and plus 1, the last two in units of 2^-32.
+fn sine_sum(s: u64, c: u64, a: u64, b: u64) -> u64
+    requires { ⌜ (s ≤ 2147483648) × (c ≤ 2147483648) × (a ≤ 4294967296) × (b ≤ 536870912) ⌝ }
+    ensures { λ w. ⌜ w ≡ sineSum s c a b ⌝ }
+{
+    let low = 0x5000_0000_0000_0000 - 0x4000_0000 * (a + b);
+    (low + s * a + c * b + 0x20_0000_0000) / 0x40_0000_0000
+}
+
+// cos(p + r) = cos p cos r - sin p sin r, likewise.
+fn cosine_sum(s: u64, c: u64, a: u64, b: u64) -> u64
+    requires { ⌜ (s ≤ 2147483648) × (c ≤ 2147483648) × (a ≤ 4294967296) × (b ≤ 536870912) ⌝ }
+    ensures { λ w. ⌜ w ≡ cosineSum s c a b ⌝ }
+{
+    let low = 0x5000_0000_0000_0000 - 0x4000_0000 * a + 0x4000_0000 * b;
+    (low + c * a - s * b + 0x20_0000_0000) / 0x40_0000_0000
+}
+
+// Sine of x in units of 2^-35, up to 16; in units of 2^-24, plus 5 * 2^22.
+pub fn sine(x: u64) -> u64
+    requires { ⌜ x ≤ 549755813888 ⌝ }
+    ensures { λ w. ⌜ w ≡ fixedSine x ⌝ }
+{
+    let j = (x / 0x1_0000_0000) as usize;
+    let r = x % 0x1_0000_0000;
+    let q = square_of(r);
+    sine_sum(
+        table::sine_at(j),
+        table::cosine_at(j),
+        even_part(q),
+        odd_part(r, q),
+    )
+}
+
+// Cosine, likewise.
+pub fn cosine(x: u64) -> u64
+    requires { ⌜ x ≤ 549755813888 ⌝ }
+    ensures { λ w. ⌜ w ≡ fixedCosine x ⌝ }
+{
+    let j = (x / 0x1_0000_0000) as usize;
+    let r = x % 0x1_0000_0000;
+    let q = square_of(r);
+    cosine_sum(
+        table::sine_at(j),
+        table::cosine_at(j),
+        even_part(q),
+        odd_part(r, q),
+    )
+}
+
+// The f32 of a number in units of 2^-24, plus 5 * 2^22.
+pub fn centred(w: u64) -> f32
+    requires { ⌜ (4194304 ≤ w) × (w ≤ 37748736) ⌝ }
+    ensures { λ r. ⌜ r ≡ centred w ⌝ }
+{
+    let y = w as i32 - 20971520;
+    y as f32 * 0.000000059604644775390625
+}
