@@ -71,4 +71,3 @@ multiple w k d h =
   where
     le-of-lt-suc : {a b : ℕ} → a < suc b → a ≤ b
     le-of-lt-suc {a} {b} x = omega arith
-

@@ -47,7 +47,7 @@ shape f s (suc m) e t =
       j = pl .0;
       same = e1;
       digits = ltb→lt (suc m) (2 ^ prec f) (and-r A B (and-l (A && B) C (and-l (A && B && C) D t)));
-      under = lt-of-mul-lt-mul-right (down e) (subst (λ (x : ℕ). x < overflow f * down e) e1 (lt-of-lt-of-le top (le-of-eq e2)))
+      under = lt-of-mul-lt-mul-right (down e) (subst (λ (x : ℕ). x < overflow f * down e) e1 (lt-of-lt-of-le top (le-of-eq e2)));
     }
 
 -- ---- exact
@@ -100,7 +100,5 @@ single x t h =
     record {
       ok = units-of x (w .p) (w .n) (w .part);
       hi-exact = ap (λ (k : ℕ). grid binary32 k unity) a ∙ w .p-exact ∙ sym a;
-      lo-exact = ap (λ (k : ℕ). grid binary32 k unity) b ∙ w .n-exact ∙ sym b
+      lo-exact = ap (λ (k : ℕ). grid binary32 k unity) b ∙ w .n-exact ∙ sym b;
     }
-
--- a finite f32 is below 2 ^ 128

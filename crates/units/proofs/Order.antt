@@ -11,8 +11,9 @@ use lib.Dec.{T, T-not, ltb, ltb→lt, lt→ltb, eqb, eqb→eq}
 use lib.Pow.{pow-pos}
 use lib.Ieee.{Float, nan, inf, fin, Format, low, up, down, lt, eq, le, below, level, binary32}
 use lib.Ieee.Fits.{down-pos, and-i, and-l, and-r, eq→eqb}
-use lib.Ieee.Scale.{grid, finite}
+use lib.Ieee.Exact.{HasValue}
 use Rattle.units.specs.Units.{one, Part, hi, lo, Units, gap, apart, plusOf, minusOf}
+use Rattle.units.proofs.Values.{plus-part}
 use Rattle.units.proofs.Add.{pos-wide, neg-wide, over-add}
 
 -- ±a < ±b
@@ -137,6 +138,21 @@ module _ (f : Format) (x y : Float) (p n q r : ℕ) (a : Part f x p n) (b : Part
 
   pub not-eq-part : T (not (eq x y)) → p + r ≡ n + q → ⊥
   not-eq-part t h = T-not (eq x y) t (eq-part .1 h)
+
+-- ---- by values: two that are not negative
+pub le-values : (f : Format) (x y : Float) (a b : ℕ) → HasValue x false a (one f) → HasValue y false b (one f) → (T (le x y) → a ≤ b) × (a ≤ b → T (le x y))
+le-values f x y a b p q =
+    let w = le-part f x y a 0 b 0 (plus-part f x a p) (plus-part f y b q) in
+    (λ h. less (w .0 h), λ h. w .1 (more h))
+  where
+    less : a + 0 ≤ 0 + b → a ≤ b
+    less h = omega arith
+
+    more : a ≤ b → a + 0 ≤ 0 + b
+    more h = omega arith
+
+pub not-le-values : (f : Format) (x y : Float) (a b : ℕ) → HasValue x false a (one f) → HasValue y false b (one f) → T (not (le x y)) → b < a
+not-le-values f x y a b p q t = lt-of-not-le (λ (h : a ≤ b). T-not (le x y) t (le-values f x y a b p q .1 h))
 
 -- ---- for f32: no unit apart is equal
 level-gap : (a b c d : ℕ) → gap (a + b) (c + d) ≡ 0 → a + b ≡ c + d

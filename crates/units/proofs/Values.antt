@@ -85,11 +85,11 @@ lo-is (fin false m e) p n h = sym (h .1)
 pub units-of : (x : Float) (p n : ℕ) → Part binary32 x p n → Units x
 units-of x p n h = subst (λ (w : ℕ). Part binary32 x w (lo x)) (sym (hi-is x p n h)) (subst (λ (w : ℕ). Part binary32 x p w) (sym (lo-is x p n h)) h)
 
-pub one-side : (x : Float) (p n : ℕ) → Part binary32 x p n → (p ≡ 0) ⊎ (n ≡ 0)
-one-side nan p n h = absurd h
-one-side (inf s) p n h = absurd h
-one-side (fin false m e) p n h = inr (h .1)
-one-side (fin true m e) p n h = inl (h .1)
+pub one-side : (f : Format) (x : Float) (p n : ℕ) → Part f x p n → (p ≡ 0) ⊎ (n ≡ 0)
+one-side f nan p n h = absurd h
+one-side f (inf s) p n h = absurd h
+one-side f (fin false m e) p n h = inr (h .1)
+one-side f (fin true m e) p n h = inl (h .1)
 
 pub mag-is : (x : Float) (s : Bool) (a : ℕ) → HasValue x s a unity → mag x ≡ a
 unfolding mag
@@ -120,11 +120,11 @@ signed f (fin false m e) p n h = plus (refl, h .0) (h .1)
 signed f (fin true m e) p n h = minus (refl, h .0) (h .1)
 
 -- what has a positive part is not negative
-pub plus-value : (f : Format) (x : Float) (p n : ℕ) → Part f x p n → 0 < p → HasValue x false p (one f)
-plus-value f nan p n h g = absurd h
-plus-value f (inf s) p n h g = absurd h
-plus-value f (fin false m e) p n h g = (refl, h .0)
-plus-value f (fin true m e) p n h g = absurd (none p (h .1) g)
+pub positive-value : (f : Format) (x : Float) (p n : ℕ) → Part f x p n → 0 < p → HasValue x false p (one f)
+positive-value f nan p n h g = absurd h
+positive-value f (inf s) p n h g = absurd h
+positive-value f (fin false m e) p n h g = (refl, h .0)
+positive-value f (fin true m e) p n h g = absurd (none p (h .1) g)
   where
     none : (a : ℕ) → a ≡ 0 → 0 < a → ⊥
     none a e g = omega arith
