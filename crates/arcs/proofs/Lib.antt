@@ -20,5 +20,12 @@ mod Scaling
 mod Parts
 mod Atan2Band
 mod ArcBand
+mod Ranges
+mod Tabled
+mod Seeds
+mod Fields
+mod Leveling
+mod Raising
 pub mod Bands
 pub mod Bounds
+mod Answers
