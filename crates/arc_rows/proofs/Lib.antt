@@ -1,0 +1,5 @@
+mod Each
+mod RowTests
+mod RowsHold
+pub mod Nearest
+pub mod Rows

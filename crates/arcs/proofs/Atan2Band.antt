@@ -1,0 +1,209 @@
+-- `finiteAtan2` meets document 01's rule for atan2, at any e of F * 2 ^ -22 with F from 4 to 16. Assumes nothing.
+use mathlib.Core.Path.{_≡_, refl, sym, ap, ap₂, _∙_, subst, subst₂}
+use mathlib.Core.Logic.{_⊎_, inl, inr}
+use mathlib.Core.Bool.{Bool, true, false, cond}
+use Prim.Native.Nat.{ℕ, zero, suc, _+_, _*_, _/_, _^_, _≤_, _<_}
+use native.Mathlib.Nat.{eq-zero-or-pos}
+use native.Mathlib.Omega.{arith}
+use lib.Dec.{T, lit<}
+use lib.Pow.{pow-pos}
+use lib.Ieee.{Float, binary32, size, fits, toBits}
+use lib.Ieee.Exact.{HasValue}
+use Rattle.numbers.specs.Door.{finite}
+use Rattle.units.specs.Units.{mag}
+use Rattle.units.proofs.Patterns.{one-value}
+use Rattle.series.specs.Fractions.{Fraction, _÷_, whole, negative, signed, _≋_, _≼_, value}
+use Rattle.series.proofs.Fractions.{same-sym, same-trans, negative-same, le-same}
+use Rattle.arc_rows.specs.ArcTangent.{arcTangent}
+use Rattle.arcs.specs.How.{angle, wide, sharp, slope, turned, scaleTo, common, levelAngle, finiteAtan2}
+use Rattle.arcs.specs.Wedges.{P, signBit, IsZero, Angle, Atan2}
+use Rattle.arcs.proofs.Numbers.{value-is, value-over, signed-same}
+use Rattle.arcs.proofs.Places.{G, G-pos}
+use Rattle.arcs.proofs.Turn.{Fine, upper, angle-le}
+use Rattle.arcs.proofs.Atan2Rule.{angle-of, mirror}
+use Rattle.arcs.proofs.Scaling.{cut-at, scale-large}
+use Rattle.arcs.proofs.Patterns.{sign-is, finite-of, in-units}
+use Rattle.arcs.proofs.Results.{turned-value, turned-fits}
+
+-- ---- a result as a fraction
+pub few : {n : ℕ} → n ≤ 13176795 → n < 16777216
+few g = omega arith
+
+in-grid : (A : ℕ) → (A * 2 ^ 127) ÷ 2 ^ 149 ≋ (256 * A) ÷ G
+in-grid A = go A (2 ^ 127)
+  where
+    go : (A h : ℕ) → A * h * 1073741824 + 0 * (4194304 * h) ≡ 256 * A * (4194304 * h) + 0 * 1073741824
+    go A h = omega arith
+
+pub turned-is : (s : Bool) (A : ℕ) → A ≤ 13176795 → value (turned s A) ≋ signed s ((256 * A) ÷ G)
+turned-is s A h =
+    same-trans (value (turned s A)) (signed s ((A * 2 ^ 127) ÷ 2 ^ 149)) (signed s ((256 * A) ÷ G)) (over s)
+    (value-is (turned s A) s (A * 2 ^ 127) (2 ^ 149) (turned-value s A (few h))) (signed-same s ((A * 2 ^ 127) ÷ 2 ^ 149) ((256 * A) ÷ G) (in-grid A))
+  where
+    over : (s : Bool) → 0 < signed s ((A * 2 ^ 127) ÷ 2 ^ 149) .over
+    over true = lit< {m = 0} {n = 2 ^ 149} tt
+    over false = lit< {m = 0} {n = 2 ^ 149} tt
+
+-- at most P on either side
+pub turned-le : (s : Bool) (A : ℕ) → A ≤ 13176795 → (negative P ≼ value (turned s A)) × (value (turned s A) ≼ P)
+turned-le s A h = (
+  le-same (negative P) (negative P) (signed s ((256 * A) ÷ G)) (value (turned s A)) (lit< {m = 0} {n = 2 ^ 22} tt) (over s) refl (back s) (low s),
+  le-same (signed s ((256 * A) ÷ G)) (value (turned s A)) P P (over s) (lit< {m = 0} {n = 2 ^ 22} tt) (back s) refl (high s),
+)
+  where
+    over : (s : Bool) → 0 < signed s ((256 * A) ÷ G) .over
+    over true = G-pos
+    over false = G-pos
+
+    back : (s : Bool) → signed s ((256 * A) ÷ G) ≋ value (turned s A)
+    back s = same-sym (value (turned s A)) (signed s ((256 * A) ÷ G)) (turned-is s A h)
+
+    low : (s : Bool) → negative P ≼ signed s ((256 * A) ÷ G)
+    low true = omega arith
+    low false = omega arith
+
+    high : (s : Bool) → signed s ((256 * A) ÷ G) ≼ P
+    high true = omega arith
+    high false = omega arith
+
+-- ---- zero
+no-units : (x : Float) → T (fits binary32 x) → T (finite x) → mag x ≡ 0 → IsZero x
+no-units x f h e =
+    same-trans (value x) (signed (signBit x) (mag x ÷ 2 ^ 149)) (whole 0) (over (signBit x)) (value-is x (signBit x) (mag x) (2 ^ 149) (in-units x f h))
+    (subst (λ (n : ℕ). signed (signBit x) (n ÷ 2 ^ 149) ≋ whole 0) (sym e) (go (signBit x)))
+  where
+    over : (s : Bool) → 0 < signed s (mag x ÷ 2 ^ 149) .over
+    over true = lit< {m = 0} {n = 2 ^ 149} tt
+    over false = lit< {m = 0} {n = 2 ^ 149} tt
+
+    go : (s : Bool) → signed s (0 ÷ 2 ^ 149) ≋ whole 0
+    go true = refl
+    go false = refl
+
+zero-units : (x : Float) → T (fits binary32 x) → T (finite x) → IsZero x → mag x ≡ 0
+zero-units x f h e =
+    go (signBit x) (mag x) (2 ^ 149)
+    (same-trans (signed (signBit x) (mag x ÷ 2 ^ 149)) (value x) (whole 0) (value-over x) (same-sym (value x) (signed (signBit x) (mag x ÷ 2 ^ 149)) (value-is x (signBit x) (mag x) (2 ^ 149) (in-units x f h))) e)
+  where
+    go : (s : Bool) (n u : ℕ) → signed s (n ÷ u) ≋ whole 0 → n ≡ 0
+    go true n u h = plain h
+      where
+        plain : 0 * 1 + 0 * u ≡ 0 * u + n * 1 → n ≡ 0
+        plain g = omega arith
+    go false n u h = plain h
+      where
+        plain : n * 1 + 0 * u ≡ 0 * u + 0 * 1 → n ≡ 0
+        plain g = omega arith
+
+pub zero-angle : (s : Bool) → angle s 0 0 ≡ cond s 13176795 0
+unfolding angle wide sharp slope arcTangent
+zero-angle true = refl
+zero-angle false = refl
+
+zero-scale : scaleTo (common 0 0) 0 ≡ 0
+unfolding scaleTo size
+zero-scale = refl
+
+pub level-zero : (s : Bool) → levelAngle s 0 0 ≡ cond s 13176795 0
+level-zero s = ap (λ (n : ℕ). angle s n n) zero-scale ∙ zero-angle s
+
+pub level-le : (s : Bool) (x y : ℕ) → levelAngle s x y ≤ 13176795
+level-le s x y = elim (eq-zero-or-pos x) [
+  | inl p ↦ elim (eq-zero-or-pos y) [
+    | inl q ↦ subst₂ (λ (m n : ℕ). levelAngle s m n ≤ 13176795) (sym p) (sym q) (subst (λ (n : ℕ). n ≤ 13176795) (sym (level-zero s)) (go s))
+    | inr q ↦ angle-le s (scaleTo (common x y) x) (scaleTo (common x y) y) (scale-large x y (inr q))
+  ]
+  | inr p ↦ angle-le s (scaleTo (common x y) x) (scaleTo (common x y) y) (scale-large x y (inl p))
+]
+  where
+    go : (s : Bool) → cond s 13176795 0 ≤ 13176795
+    go true = omega arith
+    go false = omega arith
+
+-- ---- the rule
+module _ (e : Fraction) (F : ℕ) (F-low : 4 ≤ F) (F-high : F ≤ 16) (e-is : e ≋ (256 * F) ÷ G) (e-pos : 0 < e .over) (y x : Float) (fy : T (fits binary32 y)) (fx : T (fits binary32 x)) (hy : T (finite y)) (hx : T (finite x)) where
+  abbrev A : ℕ
+  A = levelAngle (signBit x) (mag x) (mag y)
+
+  U : ℕ
+  U = 2 ^ 149
+
+  U-pos : 0 < U
+  unfolding U
+  U-pos = lit< {m = 0} {n = 2 ^ 149} tt
+
+  abbrev x₀ : Fraction
+  x₀ = signed (signBit x) (mag x ÷ U)
+
+  abbrev y₀ : Fraction
+  y₀ = mag y ÷ U
+
+  x-over : 0 < x₀ .over
+  x-over = go (signBit x)
+    where
+      go : (s : Bool) → 0 < signed s (mag x ÷ U) .over
+      go true = U-pos
+      go false = U-pos
+
+  x-is : x₀ ≋ value x
+  unfolding U
+  x-is = same-sym (value x) x₀ (value-is x (signBit x) (mag x) (2 ^ 149) (in-units x fx hx))
+
+  y-is : value y ≋ signed (signBit y) y₀
+  unfolding U
+  y-is = value-is y (signBit y) (mag y) (2 ^ 149) (in-units y fy hy)
+
+  fine : (0 < mag x) ⊎ (0 < mag y) → Fine (256 * F) y₀ x₀ (256 * A)
+  fine p =
+      upper (256 * F) (omega arith) (omega arith) U U-pos (mag x) (mag y) (scaleTo (common (mag x) (mag y)) (mag x)) (scaleTo (common (mag x) (mag y)) (mag y)) (2 ^ 25) (2 ^ common (mag x) (mag y))
+      (cut-at (common (mag x) (mag y)) (mag x)) (cut-at (common (mag x) (mag y)) (mag y)) (pow-pos (common (mag x) (mag y))) (signBit x) (scale-large (mag x) (mag y) p)
+
+  -- y and t with the same sign
+  signed-angle : (s : Bool) (v t : Fraction) → 0 < v .over → 0 < t .over → v ≋ signed s y₀ → t ≋ signed s ((256 * A) ÷ G) → Fine (256 * F) y₀ x₀ (256 * A) → Angle e v (value x) t
+  signed-angle false v t pv pt hv ht f = angle-of e (256 * F) e-is e-pos v (value x) t y₀ x₀ (256 * A) (same-sym v y₀ hv) x-is ht pv (value-over x) pt U-pos x-over f
+  signed-angle true v t pv pt hv ht f =
+      mirror e (negative v) (value x) (negative t)
+      (angle-of e (256 * F) e-is e-pos (negative v) (value x) (negative t) y₀ x₀ (256 * A) (same-sym (negative v) y₀ (negative-same v (negative y₀) hv)) x-is (negative-same t (negative ((256 * A) ÷ G)) ht) pv (value-over x) pt U-pos x-over f)
+
+  some : (IsZero y → IsZero x → ⊥) → (0 < mag x) ⊎ (0 < mag y)
+  some never = elim (eq-zero-or-pos (mag x)) [
+    | inl p ↦ elim (eq-zero-or-pos (mag y)) [ inl q ↦ absurd (never (no-units y fy hy q) (no-units x fx hx p)) | inr q ↦ inr q ]
+    | inr p ↦ inl p
+  ]
+
+  abbrev t : Float
+  t = turned (signBit y) A
+
+  t-value : HasValue t (signBit y) (A * 2 ^ 127) (2 ^ 149)
+  t-value = turned-value (signBit y) A (few (level-le (signBit x) (mag x) (mag y)))
+
+  at-zeros : IsZero y → IsZero x → A ≡ cond (signBit x) 13176795 0
+  at-zeros p q = ap₂ (λ (a b : ℕ). levelAngle (signBit x) a b) (zero-units x fx hx q) (zero-units y fy hy p) ∙ level-zero (signBit x)
+
+  itself : IsZero y → IsZero x → signBit x ≡ false → t ≡ y
+  itself p q s =
+      let none : A ≡ 0 = at-zeros p q ∙ ap (λ (b : Bool). cond {A = ℕ} b 13176795 0) s in
+      one-value t y (signBit y) 0 (turned-fits (signBit y) A (few (level-le (signBit x) (mag x) (mag y)))) fy
+      (subst (λ (n : ℕ). HasValue t (signBit y) (n * 2 ^ 127) (2 ^ 149)) none t-value) (subst (λ (n : ℕ). HasValue y (signBit y) n (2 ^ 149)) (zero-units y fy hy p) (in-units y fy hy))
+
+  half-turn : IsZero y → IsZero x → signBit x ≡ true → value t ≋ signed (signBit y) P
+  half-turn p q s =
+      let all : A ≡ 13176795 = at-zeros p q ∙ ap (λ (b : Bool). cond {A = ℕ} b 13176795 0) s in
+      same-trans (value t) (signed (signBit y) ((256 * A) ÷ G)) (signed (signBit y) P) (over (signBit y)) (turned-is (signBit y) A (level-le (signBit x) (mag x) (mag y)))
+      (subst (λ (n : ℕ). signed (signBit y) ((256 * n) ÷ G) ≋ signed (signBit y) P) (sym all) (signed-same (signBit y) ((256 * 13176795) ÷ G) P refl))
+    where
+      over : (s : Bool) → 0 < signed s ((256 * A) ÷ G) .over
+      over true = G-pos
+      over false = G-pos
+
+  pub atan2-rule : Atan2 e y x (finiteAtan2 y x)
+  unfolding finiteAtan2
+  atan2-rule = record {
+    is-number = finite-of t (signBit y) (A * 2 ^ 127) (2 ^ 149) t-value;
+    least = turned-le (signBit y) A (level-le (signBit x) (mag x) (mag y)) .0;
+    most = turned-le (signBit y) A (level-le (signBit x) (mag x) (mag y)) .1;
+    sign = sign-is t (signBit y) (A * 2 ^ 127) (2 ^ 149) t-value;
+    angle = λ never. signed-angle (signBit y) (value y) (value t) (value-over y) (value-over t) y-is (turned-is (signBit y) A (level-le (signBit x) (mag x) (mag y))) (fine (some never));
+    zero-right = itself;
+    zero-left = half-turn;
+  }

@@ -1,0 +1,76 @@
+-- The whole part of a square root: `wholeRoot` finds it, there is one, and what the loops of `settle` ask. Assumes nothing.
+use mathlib.Core.Path.{_≡_, refl, sym, ap, _∙_, subst}
+use mathlib.Core.Bool.{Bool, true, false, not, cond}
+use Prim.Native.Nat.{ℕ, zero, suc, _+_, _-_, _*_, _/_, _^_, _≤_, _<_}
+use native.Mathlib.Nat.{le-of-eq, lt-of-lt-of-le, lt-of-le-of-lt, lt-of-not-le, not-le-of-lt, le-antisymm, mul-le-mul, mul-comm, div-lt-iff-lt-mul, pow-succ'}
+use native.Mathlib.Omega.{arith}
+use lib.Dec.{T, leb, leb→le, nleb→lt, lit<}
+use Rattle.arcs.specs.How.{wholeRoot}
+use Rattle.arcs.proofs.Beside.{Root}
+
+abbrev sq : ℕ → ℕ
+sq a = a * a
+
+pub wholeRoot-is : (d n : ℕ) → n < 4 ^ d → (sq (wholeRoot d n) ≤ n) × (n < sq (wholeRoot d n + 1))
+unfolding wholeRoot
+wholeRoot-is zero n h = (omega arith, omega arith)
+wholeRoot-is (suc d) n h = go (wholeRoot d (n / 4)) (wholeRoot-is d (n / 4) (div-lt-iff-lt-mul four-pos .1 (lt-of-lt-of-le h (le-of-eq (pow-succ d)))))
+  where
+    four-pos : 0 < 4
+    four-pos = omega arith
+
+    pow-succ : (j : ℕ) → 4 ^ suc j ≡ 4 ^ j * 4
+    pow-succ j = pow-succ' 4 j ∙ mul-comm 4 (4 ^ j)
+
+    pick : (b : Bool) (r : ℕ) → (T b → sq (r + 1) ≤ n) → (T (not b) → n < sq (r + 1)) → sq r ≤ n → n < sq (r + 2) → (sq (cond b (r + 1) r) ≤ n) × (n < sq (cond b (r + 1) r + 1))
+    pick true r x y lo hi = (x tt, hi' (x tt))
+      where
+        hi' : sq (r + 1) ≤ n → n < sq (r + 1 + 1)
+        hi' z = omega arith
+    pick false r x y lo hi = (lo, y tt)
+
+    go : (s : ℕ) → (sq s ≤ n / 4) × (n / 4 < sq (s + 1)) → (sq (cond (leb (sq (2 * s + 1)) n) (2 * s + 1) (2 * s)) ≤ n) × (n < sq (cond (leb (sq (2 * s + 1)) n) (2 * s + 1) (2 * s) + 1))
+    go s t =
+        let lo : sq (2 * s) ≤ n = omega arith in
+        let hi : n < sq (2 * s + 2) = omega arith in
+        pick (leb (sq (2 * s + 1)) n) (2 * s) (leb→le (sq (2 * s + 1)) n) (nleb→lt (sq (2 * s + 1)) n) lo hi
+
+pub sq-lt-back : (a b : ℕ) → a * a < b * b → a < b
+sq-lt-back a b h = lt-of-not-le (λ (g : b ≤ a). not-le-of-lt h (mul-le-mul g g))
+
+pub one-root : (n r : ℕ) → n ≤ 1125899906842624 → r * r ≤ n → n < (r + 1) * (r + 1) → r ≡ wholeRoot 26 n
+one-root n r h lo hi =
+    let i = wholeRoot-is 26 n (lt-of-le-of-lt h (lit< {m = 1125899906842624} {n = 4 ^ 26} tt)) in
+    let a : r < wholeRoot 26 n + 1 = sq-lt-back r (wholeRoot 26 n + 1) (lt-of-le-of-lt lo (i .1)) in
+    let b : wholeRoot 26 n < r + 1 = sq-lt-back (wholeRoot 26 n) (r + 1) (lt-of-le-of-lt (i .0) hi) in
+    both (wholeRoot 26 n) a b
+  where
+    both : (s : ℕ) → r < s + 1 → s < r + 1 → r ≡ s
+    both s a b = omega arith
+
+-- the side beside Q
+pub root-of : (Q : ℕ) → Q ≤ 33554432 → Root Q (wholeRoot 26 (1125899906842624 - Q * Q))
+root-of Q h =
+    let n = 1125899906842624 - Q * Q in
+    let k : Q * Q ≤ 1125899906842624 = mul-le-mul h h in
+    let i = wholeRoot-is 26 n (lt-of-le-of-lt (few (Q * Q)) (lit< {m = 1125899906842624} {n = 4 ^ 26} tt)) in
+    record { low = one (Q * Q) (wholeRoot 26 n) k (i .0); high = two (Q * Q) (wholeRoot 26 n) k (i .1); Q-le = h }
+  where
+    few : (s : ℕ) → 1125899906842624 - s ≤ 1125899906842624
+    few s = omega arith
+
+    one : (s r : ℕ) → s ≤ 1125899906842624 → r * r ≤ 1125899906842624 - s → s + r * r ≤ 1125899906842624
+    one s r k g = omega arith
+
+    two : (s r : ℕ) → s ≤ 1125899906842624 → 1125899906842624 - s < (r + 1) * (r + 1) → 1125899906842624 < s + (r + 1) * (r + 1)
+    two s r k g = omega arith
+
+-- ---- `settle`
+pub sq-small : (q : ℕ) → q ≤ 33554433 → q * q ≤ 1125899973951489
+sq-small q h = mul-le-mul h h
+
+pub side-le : (r n : ℕ) → r * r ≤ n → n ≤ 1125899906842624 → r ≤ 33554432
+side-le r n h k = under (sq-lt-back r 33554433 (omega arith))
+  where
+    under : r < 33554433 → r ≤ 33554432
+    under g = omega arith

@@ -1,0 +1,35 @@
+-- `arcs::whole_root::inverse` meets its contract: no product overflows.
+use Prim.Native.Nat.{_*_, _/_}
+use native.Mathlib.Omega.{arith}
+use Rattle.arcs.proofs.Seeds.{square, times-h, last}
+use borrow.Author.Needs.{needs}
+use Rattle.arcs.proofs.whole_root.inverse.Statement.{statement}
+use Rattle.arcs.proofs.whole_root.inverse.Tie as tie
+
+seed-requires : tie.Need-seed-requires
+seed-requires c κs = search needs
+
+cast-y : tie.Need-cast-y
+cast-y c = search needs
+
+mul-p : tie.Need-mul-p
+mul-p c = omega (arith, square (c .seed .result) (c .seed .ensures))
+
+mul-p-2 : tie.Need-mul-p-2
+mul-p-2 c = omega (arith, times-h (c .seed .result) (c .before .args .h) (c .seed .ensures) (c .before .pre))
+
+sub-result : tie.Need-sub-result
+sub-result c = search needs
+
+mul-result : tie.Need-mul-result
+mul-result c = omega (arith, last (c .before .seed .result) (c .before .seed .result * c .before .seed .result / 16 * c .before .before .args .h / 17179869184) (c .before .seed .ensures))
+
+returns : tie.Need-returns
+returns c = omega (arith, last (c .before .seed .result) (c .before .seed .result * c .before .seed .result / 16 * c .before .before .args .h / 17179869184) (c .before .seed .ensures))
+
+returns-2 : tie.Need-returns-2
+returns-2 c = search needs
+
+pub inverse-spec : {M : Type 1} → statement M
+inverse-spec =
+    tie.close (tie.spec seed-requires cast-y mul-p mul-p-2 sub-result mul-result returns returns-2)

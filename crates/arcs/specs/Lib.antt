@@ -1,0 +1,4 @@
+pub mod Wedges
+pub mod Entries
+pub mod How
+pub mod Digits

@@ -1,0 +1,65 @@
+// Arc cosine and atan2 of f32, by whole numbers of at most 64 bits: the angle of a vector of whole
+// numbers, from a table of 129 angles and one division for the rest.
+use numbers::Answer;
+use numbers::door;
+use numbers::limits;
+ghost use mathlib.Core.Path.{_≡_};
+ghost use lib.Ieee.{Float};
+ghost use Rattle.numbers.specs.Answers.{told};
+ghost use Rattle.numbers.specs.declared.Answer.the-variants.{Value};
+ghost use Rattle.arcs.specs.Entries.{arcCosineRefusal, arcCosineTold, atan2Refusal, atan2Told};
+ghost use Rattle.arcs.specs.Wedges.{ArcCosineOf, Atan2Of};
+
+mod angle;
+pub mod core;
+mod digits;
+mod table;
+mod whole_root;
+
+// Why q is turned away: 1 for a NaN or an infinity, 2 outside -1 to 1; 0 where it is taken.
+fn arc_cosine_refused(q: f32) -> u32
+    ensures { λ r. ⌜ r ≡ arcCosineRefusal q ⌝ }
+{
+    let finite = door::is_finite(q);
+    let permitted = door::is_permitted(limits::arc_cosine_argument(), q);
+    door::either(door::unless(finite, 1), door::unless(permitted, 2))
+}
+
+// Why (y, x) is turned away: 1 if either is a NaN or an infinity, 2 if either is outside -128 to 128.
+fn atan2_refused(y: f32, x: f32) -> u32
+    ensures { λ r. ⌜ r ≡ atan2Refusal y x ⌝ }
+{
+    let finite = door::is_finite(y) & door::is_finite(x);
+    let y_permitted = door::is_permitted(limits::atan2_argument(), y);
+    let x_permitted = door::is_permitted(limits::atan2_argument(), x);
+    door::either(
+        door::unless(finite, 1),
+        door::unless(y_permitted & x_permitted, 2),
+    )
+}
+
+// The angle from 0 to P radians whose cosine is q, for q from -1 to 1.
+pub fn arc_cosine(q: f32) -> Answer
+    ensures exact { λ r. ⌜ told r ≡ arcCosineTold q ⌝ }
+    ensures band { λ r. ⌜ ((a : Float) → r ≡ Value a → ArcCosineOf q a) ⌝ }
+{
+    let n = arc_cosine_refused(q);
+    if n == 0 {
+        Answer::Value(core::arc_cosine(q))
+    } else {
+        Answer::Refused(n)
+    }
+}
+
+// The angle of the vector (x, y) from -P to P radians, with y's sign, for x and y from -128 to 128.
+pub fn atan2(y: f32, x: f32) -> Answer
+    ensures exact { λ r. ⌜ told r ≡ atan2Told y x ⌝ }
+    ensures band { λ r. ⌜ ((t : Float) → r ≡ Value t → Atan2Of y x t) ⌝ }
+{
+    let n = atan2_refused(y, x);
+    if n == 0 {
+        Answer::Value(core::atan2(y, x))
+    } else {
+        Answer::Refused(n)
+    }
+}
