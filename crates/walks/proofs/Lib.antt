@@ -1,0 +1,11 @@
+mod Arithmetic
+mod Coordinate
+mod Far
+pub mod Aim
+mod Descent
+pub mod Keeps
+mod Steps
+pub mod Given
+pub mod Loop
+pub mod Door
+pub mod Feet
