@@ -10,6 +10,7 @@ use borrow.Author.Tests.{ltb-true, ltb-false}
 use lib.Dec.{T, T-not, not-T, ltb, eqb, eqb-refl}
 use lib.Ieee.{Float, nan, inf, fin, up, down, eq}
 use lib.Ieee.Fits.{and-i, and-l, and-r}
+use lib.Ieee.Bits.{is-true}
 use Rattle.numbers.specs.Told.{choose}
 use Rattle.units.proofs.Door.{holds}
 use Rattle.legs.specs.Legs.{Leg, leftFront, rightFront, leftMiddle, rightMiddle, leftRear, rightRear, row, foot, every}
@@ -30,10 +31,6 @@ each-foot-after m s t zero l = refl
 each-foot-after m s t (suc k) l = each-foot (feetAfter m s t k) t m l ∙ ap (λ (p : Point). pointOf (moveTowards p (foot t l) m)) (each-foot-after m s t k l)
 
 -- ---- what is equal to something is equal to itself
-test-true : (b : Bool) → T b → b ≡ true
-test-true true t = refl
-test-true false t = absurd t
-
 eq-self : (x y : Float) → T (eq x y) → T (eq y y)
 unfolding eq
 eq-self nan y h = absurd h
@@ -58,7 +55,7 @@ same-self l t h =
 pub stays : (m : Float) (s t : Point) (k : ℕ) → T (same (pointAfter m s t k) t) → T (same (pointAfter m s t (suc k)) t)
 unfolding pointAfter pointOf
 stays m s t k h =
-    let e : pointOf (moveTowards (pointAfter m s t k) t m) ≡ t = ap pointOf (stands (pointAfter m s t k) t m (test-true (same (pointAfter m s t k) t) h)) in
+    let e : pointOf (moveTowards (pointAfter m s t k) t m) ≡ t = ap pointOf (stands (pointAfter m s t k) t m (is-true (same (pointAfter m s t k) t) h)) in
     subst (λ (p : Point). T (same p t)) (sym e) (same-self (pointAfter m s t k) t h)
 
 pub still-there : (m : Float) (s t : Point) (k j : ℕ) → k ≤ j → T (same (pointAfter m s t k) t) → T (same (pointAfter m s t j) t)

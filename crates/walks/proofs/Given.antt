@@ -32,18 +32,21 @@ six a b c d u x y z w = omega arith
 apart-most : (x y : Float) → Parts (3 * unity) x → Parts (3 * unity) y → apart x y ≤ 6 * unity
 apart-most x y p q = six (hi x) (lo x) (hi y) (lo y) unity (p .0) (p .1) (q .0) (q .1)
 
+pub all-parts : (p : Point) → Each (AtMost (3 * unity)) p → Each (Parts (3 * unity)) p
+all-parts p a = (both-parts (3 * unity) (p .x) (a .0 .1), both-parts (3 * unity) (p .y) (a .1 .1), both-parts (3 * unity) (p .z) (a .2 .1))
+
+all-single : (p : Point) → Each (AtMost (3 * unity)) p → Each Fit p → Each Single p
+all-single p a f = (finite-single (p .x) (a .0 .0) (f .0), finite-single (p .y) (a .1 .0) (f .1), finite-single (p .z) (a .2 .0) (f .2))
+
 module _ (m : Float) (s t : Point) (r : Reach m s t) (fm : Fit m) (fs : Each Fit s) (ft : Each Fit t) where
+  pub move-single : Single m
+  move-single = finite-single m (r .move) fm
+
   move-value : HasValue m false (hi m) unity
-  move-value = positive-value binary32 m (hi m) (lo m) (finite-single m (r .move) fm .ok) (lt-of-lt-of-le (pow-pos 137) (r .from))
+  move-value = positive-value binary32 m (hi m) (lo m) (move-single .ok) (lt-of-lt-of-le (pow-pos 137) (r .from))
 
   move-hi : mag m ≡ hi m
   move-hi = mag-is m false (hi m) move-value
-
-  all-parts : (p : Point) → Each (AtMost (3 * unity)) p → Each (Parts (3 * unity)) p
-  all-parts p a = (both-parts (3 * unity) (p .x) (a .0 .1), both-parts (3 * unity) (p .y) (a .1 .1), both-parts (3 * unity) (p .z) (a .2 .1))
-
-  all-single : (p : Point) → Each (AtMost (3 * unity)) p → Each Fit p → Each Single p
-  all-single p a f = (finite-single (p .x) (a .0 .0) (f .0), finite-single (p .y) (a .1 .0) (f .1), finite-single (p .z) (a .2 .0) (f .2))
 
   pub aimed : Aim m t
   aimed = record {

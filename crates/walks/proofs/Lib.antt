@@ -1,4 +1,5 @@
 mod Arithmetic
+mod Few
 mod Coordinate
 mod Far
 pub mod Aim
@@ -9,3 +10,6 @@ pub mod Given
 pub mod Loop
 pub mod Door
 pub mod Feet
+pub mod OneAnswer
+pub mod Trail
+pub mod Unrefused

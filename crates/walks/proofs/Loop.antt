@@ -2,7 +2,7 @@
 use mathlib.Core.Path.{_≡_, refl, sym, ap, _∙_, subst}
 use mathlib.Core.Logic.{_⊎_, inl, inr, ⊎-elim}
 use Prim.Native.Nat.{ℕ, zero, suc, _+_, _*_, _^_, _≤_, _<_}
-use native.Mathlib.Nat.{eq-or-lt-of-le, lt-of-lt-of-le, mul-le-mul-left, le-of-mul-le-mul-right}
+use native.Mathlib.Nat.{eq-or-lt-of-le, lt-of-lt-of-le}
 use native.Mathlib.Numerals.{add-one}
 use native.Mathlib.Omega.{arith}
 use mathlib.Core.Bool.{Bool, true, false, not}
@@ -19,6 +19,7 @@ use Rattle.moves.specs.declared.MoveStep.the-variants.{Moved, Arrived}
 use Rattle.moves.proofs.Steps.{was-elsewhere, was-there}
 use Rattle.walks.specs.Walk.{pointAfter, spread, Walk}
 use Rattle.walks.proofs.Aim.{Aim, OnWay}
+use Rattle.walks.proofs.Few.{most-steps}
 use Rattle.walks.proofs.Steps.{Moves, moved}
 
 -- after k steps from s the walk is at l
@@ -100,9 +101,8 @@ module _ (m : Float) (s t : Point) where
     bound = bounded l k g;
   }
 
-  -- S is at most 18, the max move at least 1/4096: at most 147,457 steps
   pub going-few : (l : Point) (k : ℕ) → Going m s t l k → k ≤ 147457
-  going-few l k g = few k (mag m) (spread s t) unity (2 ^ 137) (lt-of-lt-of-le (pow-pos 137) (g .aim .from)) refl (g .aim .from) (g .start .near) (bounded l k g)
+  going-few l k g = most-steps k (mag m) (spread s t) 147456 (2 ^ 137) (lt-of-lt-of-le (pow-pos 137) (g .aim .from)) (g .aim .from) (twice (spread s t) (18 * unity) (g .start .near)) (bounded l k g)
     where
-      few : (k M a u v : ℕ) → 0 < M → u ≡ 4096 * v → v ≤ M → a ≤ 18 * u → k * M ≤ 2 * a + M → k ≤ 147457
-      few k M a u v p e x y z = le-of-mul-le-mul-right {m = k} {n = 147457} {k = M} (omega arith) p
+      twice : (a b : ℕ) → a ≤ b → 2 * a ≤ 2 * b
+      twice a b h = omega arith

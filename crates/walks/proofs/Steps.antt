@@ -17,7 +17,7 @@ use Rattle.moves.specs.Distance.{same, distance}
 use Rattle.moves.specs.Moving.{moveTowards, nearer, along, pointOf}
 use Rattle.moves.specs.declared.MoveStep.{MoveStep}
 use Rattle.moves.specs.declared.MoveStep.the-variants.{Moved, Arrived}
-use Rattle.moves.proofs.Steps.{stands, moves, goes-there, goes-along}
+use Rattle.moves.proofs.Steps.{stands, moves, goes-there, goes-along, arrived-at-target}
 use Rattle.walks.specs.Walk.{spread}
 use Rattle.walks.specs.Reach.{Each}
 use Rattle.walks.proofs.Aim.{Aim, OnWay}
@@ -116,3 +116,28 @@ module _ (m : Float) (l t : Point) (aim : Aim m t) (way : OnWay l t) where
       by-place false e =
           let q : nearer (distance l t) l t m ≡ p = (let r : Moved (nearer (distance l t) l t m) ≡ Moved p = sym (moves l t m e) ∙ h in cc) in
           subst (Moves m l t) q (by-distance e (le (distance l t) m) refl)
+
+  -- whatever a step does: it stays on the way, and between
+  pub record Kept : Type 0 where
+    pub on : OnWay (pointOf (moveTowards l t m)) t
+    pub between : (s : Point) → Between s t l → Between s t (pointOf (moveTowards l t m))
+
+  pub kept : Kept
+  unfolding pointOf
+  kept = by-answer (moveTowards l t m) refl
+    where
+      arrived : (p : Point) → p ≡ t → (OnWay p t) × ((s : Point) → Between s t l → Between s t p)
+      arrived p e = (
+        subst (λ (q : Point). OnWay q t) (sym e) (record { point = aim .target; near = subst (λ (a : ℕ). a ≤ 18 * unity) (sym (spread-self t)) zero-le }),
+        λ s b. subst (Between s t) (sym e) (record { x = at-end (s .x) (t .x); y = at-end (s .y) (t .y); z = at-end (s .z) (t .z) }),
+      )
+
+      by-answer : (a : MoveStep) → moveTowards l t m ≡ a → Kept
+      by-answer (Moved p) e =
+          let w = moved p e in
+          let q : p ≡ pointOf (moveTowards l t m) = sym (ap pointOf e) in
+          record { on = subst (λ (r : Point). OnWay r t) q (w .way); between = λ s b. subst (Between s t) q (w .between s b) }
+      by-answer (Arrived p) e =
+          let w = arrived p (arrived-at-target l t m p e) in
+          let q : p ≡ pointOf (moveTowards l t m) = sym (ap pointOf e) in
+          record { on = subst (λ (r : Point). OnWay r t) q (w .0); between = λ s b. subst (Between s t) q (w .1 s b) }
