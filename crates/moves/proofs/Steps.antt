@@ -38,6 +38,23 @@ module _ (l t : Point) (m : Float) where
       by-test true e = cc
       by-test false e = cc
 
+  -- and so by its answer
+  pub was-elsewhere : (p : Point) → moveTowards l t m ≡ Moved p → same l t ≡ false
+  unfolding moveTowards stepAt
+  was-elsewhere p = by-test (same l t)
+    where
+      by-test : (b : Bool) → choose b (Arrived t) (Moved (nearer (distance l t) l t m)) ≡ Moved p → b ≡ false
+      by-test true e = cc
+      by-test false e = refl
+
+  pub was-there : (p : Point) → moveTowards l t m ≡ Arrived p → same l t ≡ true
+  unfolding moveTowards stepAt
+  was-there p = by-test (same l t)
+    where
+      by-test : (b : Bool) → choose b (Arrived t) (Moved (nearer (distance l t) l t m)) ≡ Arrived p → b ≡ true
+      by-test true e = refl
+      by-test false e = cc
+
 pub goes-there : (d : Float) (l t : Point) (m : Float) → le d m ≡ true → nearer d l t m ≡ t
 unfolding nearer
 goes-there d l t m e = rw e

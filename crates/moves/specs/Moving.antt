@@ -12,7 +12,7 @@ use Rattle.moves.specs.declared.FeetStep.{FeetStep}
 use Rattle.moves.specs.declared.FeetStep.the-variants.{Moved as FeetMoved, Arrived as FeetArrived}
 
 -- "each component is last + ((target - last) / distance) * max move"
-abbrev pub component : Float → Float → Float → Float → Float
+unfoldable pub component : Float → Float → Float → Float → Float
 component d m l t = add binary32 l (mul binary32 (div binary32 (sub binary32 t l) d) m)
 
 unfoldable pub along : Float → Float → Point → Point → Point

@@ -1,0 +1,126 @@
+-- No step inside a walk is refused: what the walk hands to a step stays within that step's limits, coordinates to 4 m and a max move from 0 to 1 m.
+-- (That the step then hands the root no more than the root's limit, `moves` shows of all that it takes.)
+use mathlib.Core.Path.{_≡_, refl, sym, subst}
+use mathlib.Core.Logic.{_⊎_, inl, inr}
+use mathlib.Core.Bool.{Bool, true, false, _&&_}
+use Prim.Native.Nat.{ℕ, _+_, _*_, _^_, _≤_, _<_}
+use native.Mathlib.Omega.{arith}
+use lib.Dec.{T, lit≤}
+use lib.Pow.{pow-pos}
+use lib.Ieee.Bits.{is-true}
+use lib.Ieee.{Float, binary32, le}
+use lib.Ieee.Fits.{and-i}
+use Rattle.numbers.specs.Door.{finite, permits}
+use Rattle.numbers.specs.Limits.{maxMove, foot as footLimit}
+use Rattle.numbers.specs.declared.door.Limit.{Limit}
+use Rattle.units.specs.Units.{Units, unity, hi, lo, mag}
+use Rattle.units.proofs.Values.{part-finite, one-side, units-of, hi-is, lo-is, plus-part}
+use Rattle.units.proofs.Order.{le-part}
+use Rattle.units.proofs.Held.{Single}
+use Rattle.units.proofs.Door.{Ends, finite-is}
+use Rattle.units.proofs.Table.{foot-ends, max-move-ends}
+use Rattle.legs.specs.Legs.{finitePoint, permittedPoint}
+use Rattle.legs.specs.declared.Point.{Point}
+use Rattle.moves.specs.Refusals.{moveRefusal}
+use Rattle.moves.proofs.Refusals.{none-refused}
+use Rattle.walks.specs.Walk.{pointAfter}
+use Rattle.walks.specs.Reach.{Each, Reach}
+use Rattle.walks.proofs.Coordinate.{δ}
+use Rattle.walks.proofs.Keeps.{Inside, at-end}
+use Rattle.walks.proofs.Aim.{Parts, Aim, OnWay}
+use Rattle.walks.proofs.Given.{Fit, aimed, set-out, all-parts, move-single}
+use Rattle.walks.proofs.Steps.{Between}
+use Rattle.walks.proofs.Trail.{on-way, between}
+
+-- ---- a coordinate of the walk is at most 4
+module _ (hs ls ht lt hl ll d u : ℕ) (small : d ≤ u) (side : (hl ≡ 0) ⊎ (ll ≡ 0)) (a : hs ≤ 3 * u) (b : ls ≤ 3 * u) (c : ht ≤ 3 * u) (e : lt ≤ 3 * u) where
+  not-below : (hs + ll ≤ ls + hl + d) ⊎ (ht + ll ≤ lt + hl + d) → ll ≤ 4 * u + hl
+  not-below (inl h) = omega arith
+  not-below (inr h) = omega arith
+
+  not-above : (hl + ls ≤ ll + hs + d) ⊎ (hl + lt ≤ ll + ht + d) → hl ≤ ll + 4 * u
+  not-above (inl h) = omega arith
+  not-above (inr h) = omega arith
+
+four : (s t l : Float) → Single l → Parts (3 * unity) s → Parts (3 * unity) t → Inside s t l → (lo l ≤ 4 * unity + hi l) × (hi l ≤ lo l + 4 * unity)
+four s t l w p q i =
+    let side = one-side binary32 l (hi l) (lo l) (w .ok) in (
+      not-below (hi s) (lo s) (hi t) (lo t) (hi l) (lo l) (51 * δ) unity (lit≤ tt) side (p .0) (p .1) (q .0) (q .1) (i .low),
+      not-above (hi s) (lo s) (hi t) (lo t) (hi l) (lo l) (51 * δ) unity (lit≤ tt) side (p .0) (p .1) (q .0) (q .1) (i .high),
+    )
+
+-- ---- the door's tests, from units
+finite-units : (x : Float) → Units x → T (finite x)
+finite-units x u = subst T (sym (finite-is x)) (part-finite binary32 x (hi x) (lo x) u)
+
+permits-units : (l : Limit) (p n q r : ℕ) → Ends l p n q r → (x : Float) → Units x → p + lo x ≤ n + hi x → hi x + r ≤ lo x + q → T (permits l x)
+permits-units l p n q r e x u a b = and-i (le (l .from) x) (le x (l .to)) (le-part binary32 (l .from) x p n (hi x) (lo x) (e .from) u .1 a) (le-part binary32 x (l .to) (hi x) (lo x) q r u (e .to) .1 b)
+
+coordinate : (s t l : Float) → Single l → Parts (3 * unity) s → Parts (3 * unity) t → Inside s t l → T (permits footLimit l)
+coordinate s t l w p q i =
+    let f = four s t l w p q i in
+    permits-units footLimit 0 (4 * unity) (4 * unity) 0 foot-ends l (w .ok) (up (f .0)) (down (f .1))
+  where
+    up : {a b : ℕ} → a ≤ b → 0 + a ≤ b
+    up {a} {b} h = omega arith
+
+    down : {a b : ℕ} → a ≤ b → a + 0 ≤ b
+    down {a} {b} h = omega arith
+
+finite-point : (p : Point) → Each Single p → T (finitePoint p)
+unfolding finitePoint
+finite-point p w =
+    and-i (finite (p .x) && finite (p .y)) (finite (p .z))
+    (and-i (finite (p .x)) (finite (p .y)) (finite-units (p .x) (w .0 .ok)) (finite-units (p .y) (w .1 .ok)))
+    (finite-units (p .z) (w .2 .ok))
+
+permitted-point : (s t l : Point) → Each Single l → Each (Parts (3 * unity)) s → Each (Parts (3 * unity)) t → Between s t l → T (permittedPoint footLimit l)
+unfolding permittedPoint
+permitted-point s t l w p q b =
+    and-i (permits footLimit (l .x) && permits footLimit (l .y)) (permits footLimit (l .z))
+    (and-i (permits footLimit (l .x)) (permits footLimit (l .y))
+    (coordinate (s .x) (t .x) (l .x) (w .0) (p .0) (q .0) (b .x))
+    (coordinate (s .y) (t .y) (l .y) (w .1) (p .1) (q .1) (b .y)))
+    (coordinate (s .z) (t .z) (l .z) (w .2) (p .2) (q .2) (b .z))
+
+module _ (m : Float) (s t : Point) (r : Reach m s t) (fm : Fit m) (fs : Each Fit s) (ft : Each Fit t) where
+  aim : Aim m t
+  aim = aimed m s t r fm fs ft
+
+  start : OnWay s t
+  start = set-out m s t r fm fs ft
+
+  permitted-move : T (permits maxMove m)
+  permitted-move =
+      let u = move-single m s t r fm fs ft in
+      permits-units maxMove 0 0 unity 0 max-move-ends m (u .ok) (level (one-side binary32 m (hi m) (lo m) (u .ok)) (r .from)) (least (r .to))
+    where
+      level : (hi m ≡ 0) ⊎ (lo m ≡ 0) → 2 ^ 137 ≤ hi m → 0 + lo m ≤ 0 + hi m
+      level = above (hi m) (lo m) (2 ^ 137) (pow-pos 137)
+        where
+          above : (a b k : ℕ) → 0 < k → (a ≡ 0) ⊎ (b ≡ 0) → k ≤ a → 0 + b ≤ 0 + a
+          above a b k p (inl e) h = omega arith
+          above a b k p (inr e) h = omega arith
+
+      least : hi m ≤ unity → hi m + 0 ≤ lo m + unity
+      least = below (hi m) (lo m) unity
+        where
+          below : (a b u : ℕ) → a ≤ u → a + 0 ≤ b + u
+          below a b u h = omega arith
+
+  pub unrefused : (k : ℕ) → moveRefusal (pointAfter m s t k) t m ≡ 0
+  unfolding moveRefusal
+  unrefused k =
+      let l = pointAfter m s t k in
+      let p = all-parts s (r .start) in
+      let q = all-parts t (r .target) in
+      let w = on-way m s t aim start k .point in
+      none-refused (finitePoint l && finitePoint t && finite m) (permittedPoint footLimit l && permittedPoint footLimit t && permits maxMove m)
+      (is-true (finitePoint l && finitePoint t && finite m)
+      (and-i (finitePoint l && finitePoint t) (finite m) (and-i (finitePoint l) (finitePoint t) (finite-point l w) (finite-point t (aim .target))) (r .move)))
+      (is-true (permittedPoint footLimit l && permittedPoint footLimit t && permits maxMove m)
+      (and-i (permittedPoint footLimit l && permittedPoint footLimit t) (permits maxMove m)
+      (and-i (permittedPoint footLimit l) (permittedPoint footLimit t)
+      (permitted-point s t l w p q (between m s t aim start k))
+      (permitted-point s t t (aim .target) p q (record { x = at-end (s .x) (t .x); y = at-end (s .y) (t .y); z = at-end (s .z) (t .z) })))
+      permitted-move))

@@ -1,0 +1,3 @@
+pub mod Walk
+pub mod Reach
+pub mod Answers

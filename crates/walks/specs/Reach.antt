@@ -1,0 +1,28 @@
+-- The walks that the facts hold for: wider than document 01's table, which the entries keep to. Finite numbers; coordinates to 3 m either way;
+-- a max move from 1/4096 m to 1 m.
+use Prim.Native.Nat.{ℕ, _*_, _^_, _≤_}
+use lib.Dec.{T}
+use lib.Ieee.{Float}
+use Rattle.numbers.specs.Door.{finite}
+use Rattle.units.specs.Units.{unity, hi, mag}
+use Rattle.legs.specs.Legs.{Leg, foot}
+use Rattle.legs.specs.declared.Point.{Point}
+use Rattle.legs.specs.declared.Feet.{Feet}
+
+-- finite, and at most k units in magnitude
+abbrev pub AtMost : ℕ → Float → Type 0
+AtMost k x = T (finite x) × (mag x ≤ k)
+
+-- all three coordinates
+abbrev pub Each : (Float → Type 0) → Point → Type 0
+Each P p = P (p .x) × P (p .y) × P (p .z)
+
+pub record Reach (m : Float) (s t : Point) : Type 0 where
+  pub start : Each (AtMost (3 * unity)) s
+  pub target : Each (AtMost (3 * unity)) t
+  pub move : T (finite m)
+  pub from : 2 ^ 137 ≤ hi m
+  pub to : hi m ≤ unity
+
+abbrev pub ReachFeet : Float → Feet → Feet → Type 0
+ReachFeet m s t = (l : Leg) → Reach m (foot s l) (foot t l)
