@@ -1,0 +1,4 @@
+pub mod Turns
+pub mod Plan
+pub mod Entry
+pub mod How

@@ -1,0 +1,201 @@
+// The operations behind the door, total on every value, for the rooms above.
+use crate::turns;
+use commands::MoveCommand;
+use commands::Tripod;
+use legs::Feet;
+use legs::Point;
+ghost use mathlib.Core.Path.{_≡_};
+ghost use Rattle.numbers.specs.Told.{choose};
+ghost use Rattle.commands.specs.Tripods.{isLRL};
+ghost use Rattle.planner.specs.Plan.{summed, inRow, centre, between, plus, minus, averageTurn, readyFoot, planned};
+ghost use Rattle.planner.specs.How.{readyFeet};
+
+// The three standing feet, in the order in which they are summed.
+pub struct Trio {
+    pub first: Point,
+    pub second: Point,
+    pub third: Point,
+}
+
+// The standing three in the order in which the source sums their points.
+fn summed(lifted: Tripod, feet: Feet) -> Trio
+    ensures { λ r. ⌜ r ≡ summed lifted feet ⌝ }
+{
+    match lifted {
+        Tripod::LRL => {
+            let left_middle = feet.left_middle;
+            let right_front = feet.right_front;
+            let right_rear = feet.right_rear;
+            Trio {
+                first: left_middle,
+                second: right_front,
+                third: right_rear,
+            }
+        }
+        Tripod::RLR => {
+            let left_front = feet.left_front;
+            let left_rear = feet.left_rear;
+            let right_middle = feet.right_middle;
+            Trio {
+                first: left_front,
+                second: left_rear,
+                third: right_middle,
+            }
+        }
+    }
+}
+
+// The standing three in the order of a row, in which the source sums their angles.
+fn in_row(lifted: Tripod, feet: Feet) -> Trio
+    ensures { λ r. ⌜ r ≡ inRow lifted feet ⌝ }
+{
+    match lifted {
+        Tripod::LRL => {
+            let right_front = feet.right_front;
+            let left_middle = feet.left_middle;
+            let right_rear = feet.right_rear;
+            Trio {
+                first: right_front,
+                second: left_middle,
+                third: right_rear,
+            }
+        }
+        Tripod::RLR => {
+            let left_front = feet.left_front;
+            let right_middle = feet.right_middle;
+            let left_rear = feet.left_rear;
+            Trio {
+                first: left_front,
+                second: right_middle,
+                third: left_rear,
+            }
+        }
+    }
+}
+
+// The centre of three feet, in x and y.
+fn centre(t: Trio) -> Point
+    ensures { λ r. ⌜ r ≡ centre t ⌝ }
+{
+    Point {
+        x: (t.first.x + t.second.x + t.third.x) / 3.0,
+        y: (t.first.y + t.second.y + t.third.y) / 3.0,
+        z: 0.0,
+    }
+}
+
+// The way from a to b, in x and y.
+fn between(a: Point, b: Point) -> Point
+    ensures { λ r. ⌜ r ≡ between a b ⌝ }
+{
+    Point {
+        x: b.x - a.x,
+        y: b.y - a.y,
+        z: 0.0,
+    }
+}
+
+fn plus(p: Point, v: Point) -> Point
+    ensures { λ r. ⌜ r ≡ plus p v ⌝ }
+{
+    Point {
+        x: p.x + v.x,
+        y: p.y + v.y,
+        z: p.z + v.z,
+    }
+}
+
+fn minus(p: Point, v: Point) -> Point
+    ensures { λ r. ⌜ r ≡ minus p v ⌝ }
+{
+    Point {
+        x: p.x - v.x,
+        y: p.y - v.y,
+        z: p.z - v.z,
+    }
+}
+
+// The mean angle from the start's vectors, taken from their centre, to the relaxed ones, which are not.
+fn average_turn(start: Trio, centre: Point, relaxed: Trio) -> f32
+    ensures { λ r. ⌜ r ≡ averageTurn start centre relaxed ⌝ }
+{
+    let a = turns::turn_between(between(centre, start.first), relaxed.first);
+    let b = turns::turn_between(between(centre, start.second), relaxed.second);
+    let c = turns::turn_between(between(centre, start.third), relaxed.third);
+    (a + b + c) / 3.0
+}
+
+// A foot before its turn: a lifted one ahead of its relaxed place, a standing one moved back with the body.
+fn ready_foot(lifted: bool, start: Point, relaxed: Point, motion: Point, shift: Point) -> Point
+    ensures { λ r. ⌜ r ≡ readyFoot lifted start relaxed motion shift ⌝ }
+{
+    if lifted {
+        plus(relaxed, motion)
+    } else {
+        minus(plus(start, shift), motion)
+    }
+}
+
+// Six feet before their turns.
+fn ready_feet(lrl: bool, start: Feet, relaxed: Feet, motion: Point, shift: Point) -> Feet
+    ensures { λ r. ⌜ r ≡ readyFeet lrl start relaxed motion shift ⌝ }
+{
+    Feet {
+        left_front: ready_foot(lrl, start.left_front, relaxed.left_front, motion, shift),
+        left_middle: ready_foot(!lrl, start.left_middle, relaxed.left_middle, motion, shift),
+        left_rear: ready_foot(lrl, start.left_rear, relaxed.left_rear, motion, shift),
+        right_front: ready_foot(!lrl, start.right_front, relaxed.right_front, motion, shift),
+        right_middle: ready_foot(lrl, start.right_middle, relaxed.right_middle, motion, shift),
+        right_rear: ready_foot(!lrl, start.right_rear, relaxed.right_rear, motion, shift),
+    }
+}
+
+// Whether left front, right middle and left rear are the lifted ones.
+fn is_lrl(tripod: Tripod) -> bool
+    ensures { λ r. ⌜ r ≡ isLRL tripod ⌝ }
+{
+    match tripod {
+        Tripod::LRL => true,
+        Tripod::RLR => false,
+    }
+}
+
+fn chosen(flag: bool, x: f32, y: f32) -> f32
+    ensures { λ r. ⌜ r ≡ choose flag x y ⌝ }
+{
+    if flag { x } else { y }
+}
+
+// The next target of all six feet.
+pub fn step_with_relaxed_transformation(
+    start: Feet,
+    relaxed: Feet,
+    lifted_tripod: Tripod,
+    command: MoveCommand,
+) -> Feet
+    ensures { λ r. ⌜ r ≡ planned start relaxed «lifted_tripod» command ⌝ }
+{
+    let motion = Point {
+        x: command.direction_x,
+        y: command.direction_y,
+        z: 0.0,
+    };
+    let start_centre = centre(summed(lifted_tripod, start));
+    let relaxed_centre = centre(summed(lifted_tripod, relaxed));
+    let shift = between(start_centre, relaxed_centre);
+    let average = average_turn(
+        in_row(lifted_tripod, start),
+        start_centre,
+        in_row(lifted_tripod, relaxed),
+    );
+    let ahead = command.rotation / 2.0;
+    let back = average + -command.rotation / 2.0;
+    let lrl = is_lrl(lifted_tripod);
+    let first = turns::turn(chosen(lrl, ahead, back));
+    let second = turns::turn(chosen(lrl, back, ahead));
+    turns::turned_feet(
+        first,
+        second,
+        ready_feet(lrl, start, relaxed, motion, shift),
+    )
+}

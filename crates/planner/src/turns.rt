@@ -1,0 +1,65 @@
+// Turns about z: a rotation matrix of three rows of three numbers, and the angle between two vectors.
+use legs::Feet;
+use legs::Point;
+ghost use mathlib.Core.Path.{_≡_};
+ghost use Rattle.planner.specs.Turns.{turn, dot, applied, isZero, turnBetween};
+ghost use Rattle.planner.specs.How.{appliedFeet};
+
+// The matrix of a turn by this angle.
+pub fn turn(angle: f32) -> [[f32; 3]; 3]
+    ensures { λ r. ⌜ r ≡ turn angle ⌝ }
+{
+    let c = sines::core::cosine(angle);
+    let s = sines::core::sine(angle);
+    [[c, 0.0 - s, 0.0], [s, c, 0.0], [0.0, 0.0, 1.0]]
+}
+
+// A row's product with a point, summed left to right.
+fn dotted(row: [f32; 3], p: Point) -> f32
+    ensures { λ r. ⌜ r ≡ dot row p ⌝ }
+{
+    row[0] * p.x + row[1] * p.y + row[2] * p.z
+}
+
+// The point turned.
+pub fn turned(m: [[f32; 3]; 3], p: Point) -> Point
+    ensures { λ r. ⌜ r ≡ applied m p ⌝ }
+{
+    Point {
+        x: dotted(m[0], p),
+        y: dotted(m[1], p),
+        z: dotted(m[2], p),
+    }
+}
+
+// Six feet turned: left front, right middle and left rear by the first, the other three by the second.
+pub fn turned_feet(lrl: [[f32; 3]; 3], rlr: [[f32; 3]; 3], feet: Feet) -> Feet
+    ensures { λ r. ⌜ r ≡ appliedFeet lrl rlr feet ⌝ }
+{
+    Feet {
+        left_front: turned(lrl, feet.left_front),
+        left_middle: turned(rlr, feet.left_middle),
+        left_rear: turned(lrl, feet.left_rear),
+        right_front: turned(rlr, feet.right_front),
+        right_middle: turned(lrl, feet.right_middle),
+        right_rear: turned(rlr, feet.right_rear),
+    }
+}
+
+// Whether a vector is zero in x and y.
+fn is_zero(v: Point) -> bool
+    ensures { λ r. ⌜ r ≡ isZero v ⌝ }
+{
+    (v.x == 0.0) & (v.y == 0.0)
+}
+
+// The angle from the first vector to the second, in x and y, as they stand; 0 where either is zero.
+pub fn turn_between(a: Point, b: Point) -> f32
+    ensures { λ r. ⌜ r ≡ turnBetween a b ⌝ }
+{
+    if is_zero(a) | is_zero(b) {
+        0.0
+    } else {
+        arcs::core::atan2(a.x * b.y - a.y * b.x, a.x * b.x + a.y * b.y)
+    }
+}

@@ -1,0 +1,6 @@
+mod Bits
+mod Legs
+pub mod FootByFoot
+pub mod Taken
+pub mod Cases
+pub mod OneAnswer

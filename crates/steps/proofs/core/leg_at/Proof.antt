@@ -1,0 +1,30 @@
+-- `steps::core::leg_at` meets its contract, by its two tests.
+use Rattle.steps.specs.How.{legAt}
+use Rattle.steps.proofs.Bits.{one-bits}
+use borrow.Author.Needs.{needs}
+use Rattle.steps.proofs.core.leg_at.Statement.{statement}
+use Rattle.steps.proofs.core.leg_at.Tie as tie
+
+is-same-requires : tie.Need-is-same-requires
+is-same-requires c κs = search needs
+
+returns : tie.Need-returns
+unfolding legAt
+returns c = simp (c .if1 .taken, ← c .before .is-same .ensures)
+
+returns-2 : tie.Need-returns-2
+unfolding legAt
+returns-2 c = simp (← one-bits, c .if2 .taken, c .before .if1 .left, ← c .before .before .is-same .ensures)
+
+returns-3 : tie.Need-returns-3
+unfolding legAt
+returns-3 c =
+    simp (
+      ← one-bits,
+      c .before .before .before .before .before .before .before .if2 .left,
+      c .before .before .before .before .before .before .before .before .if1 .left,
+      ← c .before .before .before .before .before .before .before .before .before .is-same .ensures,
+    )
+
+pub leg-at-spec : {M : Type 1} → statement M
+leg-at-spec = tie.close (tie.spec is-same-requires returns returns-2 returns-3)

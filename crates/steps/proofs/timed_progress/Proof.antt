@@ -1,0 +1,29 @@
+-- `steps::timed_progress` meets its contract: refused, or what the core gives.
+use Rattle.steps.specs.Entries.{timedProgressTold}
+use borrow.Author.Tests.{eq-eqb, ne-eqb}
+use borrow.Author.Needs.{needs}
+use Rattle.steps.proofs.timed_progress.Statement.{statement}
+use Rattle.steps.proofs.timed_progress.Tie as tie
+
+progress-refused-requires : tie.Need-progress-refused-requires
+progress-refused-requires c κs = search needs
+
+timed-progress-requires : tie.Need-timed-progress-requires
+timed-progress-requires c κs = search needs
+
+returns : tie.Need-returns
+unfolding timedProgressTold
+returns c =
+    simp (
+      c .timed-progress .ensures,
+      eq-eqb _ 0 (c .before .if1 .taken),
+      ← c .before .before .progress-refused .ensures,
+    )
+
+returns-2 : tie.Need-returns-2
+unfolding timedProgressTold
+returns-2 c = simp (ne-eqb _ 0 (c .if1 .left), ← c .before .progress-refused .ensures)
+
+pub timed-progress-spec : {M : Type 1} → statement M
+timed-progress-spec =
+    tie.close (tie.spec progress-refused-requires timed-progress-requires returns returns-2)

@@ -1,0 +1,294 @@
+// The operations behind the door, total on every value, for the rooms above.
+use crate::EvenStepIterator;
+use crate::Lift;
+use crate::NextEven;
+use crate::NextStep;
+use crate::NextTimed;
+use crate::StepIterator;
+use crate::TimedStepIterator;
+use commands::Time;
+use commands::Tripod;
+use legs::Feet;
+use legs::Point;
+use moves::FeetStep;
+use moves::MoveStep;
+ghost use mathlib.Core.Path.{_≡_};
+ghost use mathlib.Core.Bool.{_&&_};
+ghost use Rattle.numbers.specs.Told.{choose};
+ghost use Rattle.moves.specs.Refusals.{finiteFeet, permittedFeet};
+ghost use Rattle.steps.specs.Progress.{stepProgress, timedProgress, evenProgress};
+ghost use Rattle.steps.specs.Leg.{stepLiftedLeg};
+ghost use Rattle.legs.specs.Legs.{leftFront, rightFront};
+ghost use Rattle.steps.specs.Shift.{heightOf, shiftLegs};
+ghost use Rattle.steps.specs.How.{atOnce, swing, raised, legAt};
+ghost use Rattle.steps.specs.Next.{nextStep, nextTimed, nextEven};
+
+// How far the step is: what the feet have gone by now and max_move more, as a part of the whole way.
+pub fn step_progress(gone: f32, max_move: f32, full: f32) -> f32
+    ensures { λ r. ⌜ r ≡ stepProgress gone «max_move» full ⌝ }
+{
+    numbers::core::min(gone + max_move, full) / full
+}
+
+// How far the step is by time, divided by the period twice, as in the source.
+pub fn timed_progress(elapsed: Time, period: Time) -> f32
+    ensures { λ r. ⌜ r ≡ timedProgress elapsed period ⌝ }
+{
+    let seconds = commands::core::as_secs_f32(period);
+    commands::core::as_secs_f32(elapsed) / seconds / seconds
+}
+
+// The same at even pace, divided once.
+pub fn even_progress(elapsed: Time, period: Time) -> f32
+    ensures { λ r. ⌜ r ≡ evenProgress elapsed period ⌝ }
+{
+    commands::core::as_secs_f32(elapsed) / commands::core::as_secs_f32(period)
+}
+
+// Whether a foot is at its full height at once.
+fn at_once(aggressive: bool, progress: f32) -> bool
+    ensures { λ r. ⌜ r ≡ atOnce aggressive progress ⌝ }
+{
+    aggressive & (progress < 0.5)
+}
+
+// The sine of the progress in half turns. It is asked for only where a foot's height needs it.
+fn swing(unused: bool, progress: f32) -> f32
+    ensures { λ r. ⌜ r ≡ swing unused progress ⌝ }
+{
+    if unused | (1.0 <= progress) {
+        0.0
+    } else {
+        sines::core::sine(progress * 3.14159274)
+    }
+}
+
+// How far a foot is above its start.
+fn raised(at_once: bool, swing: f32, height: f32) -> f32
+    ensures { λ r. ⌜ r ≡ raised «at_once» swing height ⌝ }
+{
+    if at_once { height } else { swing * height }
+}
+
+// One leg's step, where the foot is this far above its start.
+fn leg_at(start: Point, last: Point, target: Point, progress: f32, above: f32) -> MoveStep
+    ensures { λ r. ⌜ r ≡ legAt start last target progress above ⌝ }
+{
+    if moves::core::is_same(last, target) {
+        return MoveStep::Arrived(target);
+    }
+    if 1.0 <= progress {
+        return MoveStep::Moved(target);
+    }
+    MoveStep::Moved(Point {
+        x: start.x + (target.x - start.x) * progress,
+        y: start.y + (target.y - start.y) * progress,
+        z: above + start.z,
+    })
+}
+
+// One leg's step.
+pub fn step_lifted_leg(
+    start: Point,
+    last: Point,
+    target: Point,
+    height: f32,
+    progress: f32,
+    aggressive: bool,
+) -> MoveStep
+    ensures { λ r. ⌜ r ≡ stepLiftedLeg start last target height progress aggressive ⌝ }
+{
+    let now = at_once(aggressive, progress);
+    let above = raised(now, swing(now, progress), height);
+    leg_at(start, last, target, progress, above)
+}
+
+// The height of left front, right middle and left rear: the step's where they are lifted, else the descent.
+fn height_lrl(lift: Lift) -> f32
+    ensures { λ r. ⌜ r ≡ heightOf lift leftFront ⌝ }
+{
+    let tripod = lift.tripod;
+    match tripod {
+        Tripod::LRL => lift.step_height,
+        Tripod::RLR => lift.grounded_leg_descent,
+    }
+}
+
+// The height of the other three.
+fn height_rlr(lift: Lift) -> f32
+    ensures { λ r. ⌜ r ≡ heightOf lift rightFront ⌝ }
+{
+    let tripod = lift.tripod;
+    match tripod {
+        Tripod::LRL => lift.grounded_leg_descent,
+        Tripod::RLR => lift.step_height,
+    }
+}
+
+// The six feet of a step, with the flag that they share.
+fn shared(moved: bool, feet: Feet) -> FeetStep
+    ensures { λ r. ⌜ r ≡ choose moved (FeetStep.Moved feet) (FeetStep.Arrived feet) ⌝ }
+{
+    if moved {
+        FeetStep::Moved(feet)
+    } else {
+        FeetStep::Arrived(feet)
+    }
+}
+
+// All six legs follow the one rule; the three that stand use the descent as height.
+pub fn shift_legs(start: Feet, last: Feet, target: Feet, lift: Lift, progress: f32) -> FeetStep
+    ensures { λ r. ⌜ r ≡ shiftLegs start last target lift progress ⌝ }
+{
+    let now = at_once(lift.aggressive_leg_lift, progress);
+    let swing = swing(now, progress);
+    let lrl = raised(now, swing, height_lrl(lift));
+    let rlr = raised(now, swing, height_rlr(lift));
+    let lf = leg_at(
+        start.left_front,
+        last.left_front,
+        target.left_front,
+        progress,
+        lrl,
+    );
+    let rf = leg_at(
+        start.right_front,
+        last.right_front,
+        target.right_front,
+        progress,
+        rlr,
+    );
+    let lm = leg_at(
+        start.left_middle,
+        last.left_middle,
+        target.left_middle,
+        progress,
+        rlr,
+    );
+    let rm = leg_at(
+        start.right_middle,
+        last.right_middle,
+        target.right_middle,
+        progress,
+        lrl,
+    );
+    let lr = leg_at(
+        start.left_rear,
+        last.left_rear,
+        target.left_rear,
+        progress,
+        lrl,
+    );
+    let rr = leg_at(
+        start.right_rear,
+        last.right_rear,
+        target.right_rear,
+        progress,
+        rlr,
+    );
+    let moved = moves::core::has_moved(lf)
+        | moves::core::has_moved(rf)
+        | moves::core::has_moved(lm)
+        | moves::core::has_moved(rm)
+        | moves::core::has_moved(lr)
+        | moves::core::has_moved(rr);
+    let feet = Feet {
+        left_front: moves::core::point_of(lf),
+        left_middle: moves::core::point_of(lm),
+        left_rear: moves::core::point_of(lr),
+        right_front: moves::core::point_of(rf),
+        right_middle: moves::core::point_of(rm),
+        right_rear: moves::core::point_of(rr),
+    };
+    shared(moved, feet)
+}
+
+// One step more by distance. The source's descent is 0.
+pub fn next_step(s: StepIterator) -> NextStep
+    ensures { λ r. ⌜ r ≡ nextStep s ⌝ }
+{
+    let full = moves::core::max_horizontal_distance(s.start, s.target);
+    if full == 0.0 {
+        return NextStep::NoStep;
+    }
+    let gone = moves::core::max_horizontal_distance(s.last, s.start);
+    let tripod = s.tripod;
+    let lift = Lift {
+        step_height: s.step_height,
+        grounded_leg_descent: 0.0,
+        tripod: tripod,
+        aggressive_leg_lift: s.aggressive_leg_lift,
+    };
+    let step = shift_legs(
+        s.start,
+        s.last,
+        s.target,
+        lift,
+        step_progress(gone, s.max_move, full),
+    );
+    match step {
+        FeetStep::Moved(feet) => {
+            let mut after = s;
+            after.last = feet;
+            NextStep::Step(feet, after)
+        }
+        FeetStep::Arrived(_) => NextStep::NoStep,
+    }
+}
+
+// One step more by time.
+pub fn next_timed(s: TimedStepIterator, elapsed: Time) -> NextTimed
+    ensures { λ r. ⌜ r ≡ nextTimed s elapsed ⌝ }
+{
+    let full = moves::core::max_horizontal_distance(s.start, s.target);
+    if full <= 0.0 {
+        return NextTimed::NoStep;
+    }
+    let progress = timed_progress(elapsed, s.period);
+    let step = shift_legs(s.start, s.last, s.target, s.lift, progress);
+    match step {
+        FeetStep::Moved(feet) => {
+            let mut after = s;
+            after.last = feet;
+            NextTimed::Step(feet, after)
+        }
+        FeetStep::Arrived(_) => NextTimed::NoStep,
+    }
+}
+
+// One step more by time, at even pace.
+pub fn next_even(s: EvenStepIterator, elapsed: Time) -> NextEven
+    ensures { λ r. ⌜ r ≡ nextEven s elapsed ⌝ }
+{
+    let full = moves::core::max_horizontal_distance(s.start, s.target);
+    if full == 0.0 {
+        return NextEven::NoStep;
+    }
+    let progress = even_progress(elapsed, s.period);
+    let step = shift_legs(s.start, s.last, s.target, s.lift, progress);
+    match step {
+        FeetStep::Moved(feet) => {
+            let mut after = s;
+            after.last = feet;
+            NextEven::Step(feet, after)
+        }
+        FeetStep::Arrived(_) => NextEven::NoStep,
+    }
+}
+
+// Whether every coordinate of start, last and target is finite.
+pub fn course_finite(start: Feet, last: Feet, target: Feet) -> bool
+    ensures { λ r. ⌜ r ≡ (finiteFeet start && finiteFeet last && finiteFeet target) ⌝ }
+{
+    legs::core::feet_finite(start) & legs::core::feet_finite(last) & legs::core::feet_finite(target)
+}
+
+// Whether every coordinate of start, last and target is in the table.
+pub fn course_permitted(start: Feet, last: Feet, target: Feet) -> bool
+    ensures { λ r. ⌜ r ≡ (permittedFeet start && permittedFeet last && permittedFeet target) ⌝ }
+{
+    let limit = numbers::limits::foot();
+    legs::core::feet_permitted(limit, start)
+        & legs::core::feet_permitted(limit, last)
+        & legs::core::feet_permitted(limit, target)
+}

@@ -1,0 +1,265 @@
+// Steps of six feet towards their targets: by distance, by time, and by time at even pace (source 000).
+// Lengths are metres, angles radians, times seconds and nanoseconds.
+use commands::Time;
+use commands::Tripod;
+use legs::Feet;
+use numbers::Answer;
+use numbers::door;
+ghost use mathlib.Core.Path.{_≡_};
+ghost use Rattle.numbers.specs.Answers.{told};
+ghost use Rattle.steps.specs.Answers.{toldStepIter, toldNextStep, toldTimedIter, toldNextTimed, toldEvenIter, toldNextEven};
+ghost use Rattle.steps.specs.Refusals.{progressRefusal, stepRefusal, liftRefusal};
+ghost use Rattle.steps.specs.Entries.{timedProgressTold, evenProgressTold, stepIterTold, nextStepTold, timedIterTold, nextTimedTold, evenIterTold, nextEvenTold};
+
+pub mod core;
+
+// How the feet are lifted. In aggressive mode they rise to full height at once.
+pub struct Lift {
+    pub step_height: f32,
+    pub grounded_leg_descent: f32,
+    pub tripod: Tripod,
+    pub aggressive_leg_lift: bool,
+}
+
+// A step by distance: max_move more at each turn.
+pub struct StepIterator {
+    pub start: Feet,
+    pub last: Feet,
+    pub target: Feet,
+    pub max_move: f32,
+    pub step_height: f32,
+    pub tripod: Tripod,
+    pub aggressive_leg_lift: bool,
+}
+
+// A step by time, as the source paces it.
+pub struct TimedStepIterator {
+    pub start: Feet,
+    pub last: Feet,
+    pub target: Feet,
+    pub period: Time,
+    pub lift: Lift,
+}
+
+// A step by time at even pace.
+pub struct EvenStepIterator {
+    pub start: Feet,
+    pub last: Feet,
+    pub target: Feet,
+    pub period: Time,
+    pub lift: Lift,
+}
+
+// What setting out answers: the state, or why not.
+pub enum StepIter {
+    State(StepIterator),
+    Refused(u32),
+}
+
+pub enum TimedIter {
+    State(TimedStepIterator),
+    Refused(u32),
+}
+
+pub enum EvenIter {
+    State(EvenStepIterator),
+    Refused(u32),
+}
+
+// What the next step answers: the feet now and the state after, that there is no step, or why not.
+pub enum NextStep {
+    Step(Feet, StepIterator),
+    NoStep,
+    Refused(u32),
+}
+
+pub enum NextTimed {
+    Step(Feet, TimedStepIterator),
+    NoStep,
+    Refused(u32),
+}
+
+pub enum NextEven {
+    Step(Feet, EvenStepIterator),
+    NoStep,
+    Refused(u32),
+}
+
+// 3 where one of the two times is outside the table, else 0.
+pub fn progress_refused(elapsed: Time, period: Time) -> u32
+    ensures { λ r. ⌜ r ≡ progressRefusal elapsed period ⌝ }
+{
+    door::unless(
+        commands::core::is_elapsed(elapsed) & commands::core::is_period(period),
+        3,
+    )
+}
+
+// How far a timed step is: 0 at its start, 1 and more when it is done.
+pub fn timed_progress(elapsed: Time, period: Time) -> Answer
+    ensures { λ r. ⌜ told r ≡ timedProgressTold elapsed period ⌝ }
+{
+    let n = progress_refused(elapsed, period);
+    if n == 0 {
+        Answer::Value(core::timed_progress(elapsed, period))
+    } else {
+        Answer::Refused(n)
+    }
+}
+
+// The same at even pace.
+pub fn even_progress(elapsed: Time, period: Time) -> Answer
+    ensures { λ r. ⌜ told r ≡ evenProgressTold elapsed period ⌝ }
+{
+    let n = progress_refused(elapsed, period);
+    if n == 0 {
+        Answer::Value(core::even_progress(elapsed, period))
+    } else {
+        Answer::Refused(n)
+    }
+}
+
+// Why a step by distance is refused: the lowest number that applies, or 0.
+pub fn step_refused(s: StepIterator) -> u32
+    ensures { λ r. ⌜ r ≡ stepRefusal s ⌝ }
+{
+    let finite = core::course_finite(s.start, s.last, s.target)
+        & door::is_finite(s.max_move)
+        & door::is_finite(s.step_height);
+    let permitted = core::course_permitted(s.start, s.last, s.target)
+        & door::is_permitted(numbers::limits::max_move(), s.max_move)
+        & door::is_permitted(numbers::limits::direction(), s.step_height);
+    door::either(door::unless(finite, 1), door::unless(permitted, 2))
+}
+
+// Why a step by time is refused: the lowest number that applies, or 0.
+pub fn lift_refused(start: Feet, last: Feet, target: Feet, lift: Lift, period: Time) -> u32
+    ensures { λ r. ⌜ r ≡ liftRefusal start last target lift period ⌝ }
+{
+    let limit = numbers::limits::direction();
+    let finite = core::course_finite(start, last, target)
+        & door::is_finite(lift.step_height)
+        & door::is_finite(lift.grounded_leg_descent);
+    let permitted = core::course_permitted(start, last, target)
+        & door::is_permitted(limit, lift.step_height)
+        & door::is_permitted(limit, lift.grounded_leg_descent);
+    door::either(
+        door::unless(finite, 1),
+        door::either(
+            door::unless(permitted, 2),
+            door::unless(commands::core::is_period(period), 3),
+        ),
+    )
+}
+
+impl StepIterator {
+    // Sets out from start; each turn brings the feet max_move further.
+    pub fn step(
+        start: Feet,
+        target: Feet,
+        max_move: f32,
+        step_height: f32,
+        tripod: Tripod,
+        aggressive_leg_lift: bool,
+    ) -> StepIter
+        ensures { λ r. ⌜ toldStepIter r ≡ stepIterTold start target «max_move» «step_height» tripod «aggressive_leg_lift» ⌝ }
+    {
+        let state = StepIterator {
+            start: start,
+            last: start,
+            target: target,
+            max_move: max_move,
+            step_height: step_height,
+            tripod: tripod,
+            aggressive_leg_lift: aggressive_leg_lift,
+        };
+        let n = step_refused(state);
+        if n == 0 {
+            StepIter::State(state)
+        } else {
+            StepIter::Refused(n)
+        }
+    }
+
+    // One step more. All the state's floats are looked at again.
+    pub fn next(self) -> NextStep
+        ensures { λ r. ⌜ toldNextStep r ≡ nextStepTold self ⌝ }
+    {
+        let n = step_refused(self);
+        if n == 0 {
+            core::next_step(self)
+        } else {
+            NextStep::Refused(n)
+        }
+    }
+}
+
+impl TimedStepIterator {
+    // Sets out from start, for a step of this period.
+    pub fn step(start: Feet, target: Feet, period: Time, lift: Lift) -> TimedIter
+        ensures { λ r. ⌜ toldTimedIter r ≡ timedIterTold start target period lift ⌝ }
+    {
+        let n = lift_refused(start, start, target, lift, period);
+        if n == 0 {
+            TimedIter::State(TimedStepIterator {
+                start: start,
+                last: start,
+                target: target,
+                period: period,
+                lift: lift,
+            })
+        } else {
+            TimedIter::Refused(n)
+        }
+    }
+
+    // The step at this time since its start. All the state's numbers are looked at again.
+    pub fn next(self, elapsed: Time) -> NextTimed
+        ensures { λ r. ⌜ toldNextTimed r ≡ nextTimedTold self elapsed ⌝ }
+    {
+        let n = door::either(
+            lift_refused(self.start, self.last, self.target, self.lift, self.period),
+            door::unless(commands::core::is_elapsed(elapsed), 3),
+        );
+        if n == 0 {
+            core::next_timed(self, elapsed)
+        } else {
+            NextTimed::Refused(n)
+        }
+    }
+}
+
+impl EvenStepIterator {
+    // Sets out from start, for a step of this period.
+    pub fn step(start: Feet, target: Feet, period: Time, lift: Lift) -> EvenIter
+        ensures { λ r. ⌜ toldEvenIter r ≡ evenIterTold start target period lift ⌝ }
+    {
+        let n = lift_refused(start, start, target, lift, period);
+        if n == 0 {
+            EvenIter::State(EvenStepIterator {
+                start: start,
+                last: start,
+                target: target,
+                period: period,
+                lift: lift,
+            })
+        } else {
+            EvenIter::Refused(n)
+        }
+    }
+
+    // The step at this time since its start. All the state's numbers are looked at again.
+    pub fn next(self, elapsed: Time) -> NextEven
+        ensures { λ r. ⌜ toldNextEven r ≡ nextEvenTold self elapsed ⌝ }
+    {
+        let n = door::either(
+            lift_refused(self.start, self.last, self.target, self.lift, self.period),
+            door::unless(commands::core::is_elapsed(elapsed), 3),
+        );
+        if n == 0 {
+            core::next_even(self, elapsed)
+        } else {
+            NextEven::Refused(n)
+        }
+    }
+}
