@@ -1,0 +1,4 @@
+mod OnePass
+mod PastLimit
+pub mod OneAnswer
+pub mod Laws
