@@ -68,8 +68,8 @@ pub fn get_alpha_angle(a: f32, b: f32, c: f32) -> f32
 {
     let upper = b * b + c * c - a * a;
     let bottom = 2.0 * b * c;
-    let quotient = numbers::core::min(1.0, upper / bottom);
-    arcs::core::arc_cosine(numbers::core::max(-1.0, quotient))
+    let quotient = upper / bottom;
+    arcs::core::arc_cosine(numbers::core::max(-1.0, numbers::core::min(1.0, quotient)))
 }
 
 // What a motor is told, for an angle in the leg.
