@@ -1,20 +1,14 @@
 -- What upper rooms may cite of the solvers: a leg's answer is settled by its foot, its own configuration and the body; a cut quotient.
-use mathlib.Core.Path.{_≡_, refl, ap, ap₂, _∙_}
-use lib.Ieee.{Float, nan, lt, ofBits, neg}
-use Rattle.numbers.specs.Told.{choose}
-use Rattle.legs.specs.Legs.{Leg, leftFront, rightFront, leftMiddle, rightMiddle, leftRear, rightRear, foot, angles}
-use Rattle.legs.specs.declared.Point.{Point}
+use mathlib.Core.Path.{_≡_, refl, _∙_}
+use lib.Ieee.{nan, lt, ofBits, neg}
+use Rattle.legs.specs.Legs.{Leg, foot, angles}
 use Rattle.legs.specs.declared.Feet.{Feet}
-use Rattle.legs.specs.declared.LegAngles.{LegAngles}
 use Rattle.legs.specs.declared.Joints.{Joints}
 use Rattle.legs.proofs.Laws.{foot-of-feet}
 use Rattle.joints.specs.Configured.{leg}
-use Rattle.joints.specs.Inverse.{one, cut, solvedLeg, legSolved}
+use Rattle.joints.specs.Inverse.{one, cut, legSolved}
 use Rattle.joints.specs.Forward.{standing, standingFeet}
-use Rattle.joints.specs.declared.configuration.Body.{Body}
-use Rattle.joints.specs.declared.configuration.LegConfiguration.{LegConfiguration}
 use Rattle.joints.specs.declared.configuration.Configuration.{Configuration}
-use Rattle.joints.specs.declared.core.LegSolved.{LegSolved}
 
 -- two calls that agree on one leg's foot, its configuration and the body give that leg the same answer
 module _ (c d : Configuration) (l : Leg) (same-body : c .body ≡ d .body) (same-leg : leg c l ≡ leg d l) where

@@ -1,14 +1,13 @@
 -- `told` loses nothing of an answer on joints, so no second answer fits a contract stated by it.
 use mathlib.Core.Path.{_≡_, refl, ap, ap₂}
-use mathlib.Core.List.{List, [], _∷_, _++_}
-use Prim.Native.Nat.{ℕ}
+use mathlib.Core.List.{List, [], _∷_}
 use lib.ListN.{getD}
 use lib.Ieee.{Float, nan}
 use Rattle.numbers.specs.Told.{Told}
 use Rattle.legs.specs.Legs.{row, angles, jointsOf, values}
 use Rattle.legs.specs.declared.LegAngles.{LegAngles}
 use Rattle.legs.specs.declared.Joints.{Joints}
-use Rattle.joints.specs.Answers.{told, givenJoints, sideMark, toldLeg, toldLegs}
+use Rattle.joints.specs.Answers.{told, sideMark, toldLeg, toldLegs}
 use Rattle.joints.specs.declared.Solution.{Solution}
 use Rattle.joints.specs.declared.Solution.the-variants.{Solved, Refused}
 use Rattle.joints.specs.declared.core.Side.{Side}

@@ -1,7 +1,7 @@
 -- Document 01's number and values for each case of an answer on joints. A leg past its limit is refusal 6; its marks are the leg, 0 to 5 in row order, and
 -- the side: 0 at 90 degrees or more, 1 at -90 degrees or less.
 use Prim.Native.Nat.{ℕ}
-use mathlib.Core.List.{List, [], _∷_}
+use mathlib.Core.List.{[], _∷_}
 use Rattle.numbers.specs.Told.{Told, refused, given}
 use Rattle.legs.specs.Legs.{row, angles, jointsOf, values}
 use Rattle.legs.specs.declared.Joints.{Joints}

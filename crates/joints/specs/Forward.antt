@@ -1,13 +1,13 @@
 -- Document 01, "Joints": where the six feet stand at given motor angles. Formulas and order of operations as in the source, over our sine and cosine.
 use Prim.Native.Nat.{ℕ}
-use mathlib.Core.Bool.{Bool, _&&_}
-use mathlib.Core.List.{List, [], _∷_}
+use mathlib.Core.Bool.{_&&_}
+use mathlib.Core.List.{[], _∷_}
 use lib.Ieee.{Float, binary32, ofBits, add, sub, mul, neg}
 use Rattle.numbers.specs.Told.{Told, answer}
 use Rattle.numbers.specs.Door.{unless, firstOf}
 use Rattle.numbers.specs.Finite.{magnitude}
 use Rattle.sines.specs.How.{sine, cosine}
-use Rattle.legs.specs.Legs.{Leg, angles, feet, every}
+use Rattle.legs.specs.Legs.{angles, feet, every}
 use Rattle.legs.specs.Answers.{givenFeet}
 use Rattle.legs.specs.declared.Point.{Point}
 use Rattle.legs.specs.declared.Feet.{Feet}

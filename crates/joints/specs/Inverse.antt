@@ -1,7 +1,7 @@
 -- Document 01, "Joints": the joint angles of six feet. Formulas, order of operations and of legs as in the source, over our four functions and root.
 use Prim.Native.Nat.{ℕ}
 use mathlib.Core.Bool.{Bool, _&&_, _||_}
-use mathlib.Core.List.{List, [], _∷_}
+use mathlib.Core.List.{[], _∷_}
 use lib.Ieee.{Float, binary32, ofBits, add, sub, mul, div, neg, le}
 use Rattle.numbers.specs.Told.{Told, choose, answer}
 use Rattle.numbers.specs.Door.{unless, when, firstOf}
@@ -22,7 +22,6 @@ use Rattle.joints.specs.declared.configuration.Body.{Body}
 use Rattle.joints.specs.declared.configuration.LegConfiguration.{LegConfiguration}
 use Rattle.joints.specs.declared.configuration.Configuration.{Configuration}
 use Rattle.joints.specs.declared.core.Reach.{Reach}
-use Rattle.joints.specs.declared.core.Side.{Side}
 use Rattle.joints.specs.declared.core.Side.the-variants.{Positive, Negative}
 use Rattle.joints.specs.declared.core.LegSolved.{LegSolved}
 use Rattle.joints.specs.declared.core.LegSolved.the-variants.{Angles, Past as LegPast}
