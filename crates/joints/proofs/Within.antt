@@ -1,0 +1,300 @@
+-- No number passes a limit inside: where the door lets feet or motor angles through, every argument that a leg's solver hands to the root, atan2, arc cosine,
+-- sine and cosine is within document 01's row for it.
+use mathlib.Core.Path.{_≡_, refl}
+use mathlib.Core.Bool.{Bool, true, false, _&&_}
+use Prim.Native.Nat.{ℕ, _+_, _*_, _^_, _≤_}
+use lib.Dec.{T, lit≤, lit<}
+use lib.IntN.{pos}
+use lib.Ieee.{Float, fin, binary32, ofBits, add, neg, lt, eq, le, fits}
+use lib.Ieee.Fits.{and-l, and-r, and-i}
+use native.Mathlib.Omega.{arith}
+use Rattle.numbers.specs.Told.{choose}
+use Rattle.numbers.specs.Door.{permits, unless, either}
+use Rattle.numbers.specs.Finite.{lesser}
+use Rattle.numbers.specs.Limits as rows
+use Rattle.units.specs.Units.{unity, mag, hi, lo}
+use Rattle.units.proofs.Table as table
+use Rattle.legs.specs.Legs.{Leg, leftFront, rightFront, leftMiddle, rightMiddle, leftRear, rightRear, every, foot, angles, finitePoint, permittedPoint}
+use Rattle.legs.specs.declared.Point.{Point}
+use Rattle.legs.specs.declared.Feet.{Feet}
+use Rattle.legs.specs.declared.LegAngles.{LegAngles}
+use Rattle.legs.specs.declared.Joints.{Joints}
+use Rattle.joints.specs.Configured.{leg, permittedLeg, permittedBody, finiteConfiguration, permittedConfiguration, finiteAngles, permittedAngles}
+use Rattle.joints.specs.Degrees.{ninety, oneFifty}
+use Rattle.joints.specs.Inverse.{square, one, minusOne, relative, horizontalDistance, cut, ikRefusal}
+use Rattle.joints.specs.Forward.{fromMotor, baseAngle, femurTurn, tibiaTurn, fkRefusal}
+use Rattle.joints.specs.declared.configuration.Body.{Body}
+use Rattle.joints.specs.declared.configuration.LegConfiguration.{LegConfiguration}
+use Rattle.joints.specs.declared.configuration.Configuration.{Configuration}
+use Rattle.joints.proofs.Bounds.{Between, wider, sum-between, difference-between, square-between, magnitude-between, flip-between, root-between, through-the-door, in-the-table}
+
+-- ---- the floats of a record are f32
+pub record HeldPoint (p : Point) : Type 0 where
+  pub x : T (fits binary32 (p .x))
+  pub y : T (fits binary32 (p .y))
+  pub z : T (fits binary32 (p .z))
+
+pub record HeldLeg (l : LegConfiguration) : Type 0 where
+  pub position : HeldPoint (l .position)
+  pub angle : T (fits binary32 (l .«angle_offset»))
+  pub femur : T (fits binary32 (l .«femur_correction»))
+  pub tibia : T (fits binary32 (l .«tibia_correction»))
+
+pub record HeldBody (b : Body) : Type 0 where
+  pub coxa : T (fits binary32 (b .«coxa_length»))
+  pub femur : T (fits binary32 (b .«femur_offset»))
+  pub tibia : T (fits binary32 (b .«tibia_offset»))
+
+pub record HeldAngles (a : LegAngles) : Type 0 where
+  pub coxa : T (fits binary32 (a .coxa))
+  pub femur : T (fits binary32 (a .femur))
+  pub tibia : T (fits binary32 (a .tibia))
+
+pub record HeldConfiguration (c : Configuration) : Type 0 where
+  pub body : HeldBody (c .body)
+  pub legs : (l : Leg) → HeldLeg (leg c l)
+
+-- ---- what is permitted, in whole metres and radians
+at-foot : (x : Float) → T (fits binary32 x) → T (permits rows.foot x) → Between 4 4 x
+at-foot = through-the-door rows.foot 0 (4 * unity) (4 * unity) table.foot-ends 4 4 (lit≤ tt) (lit≤ tt)
+
+at-rotation : (x : Float) → T (fits binary32 x) → T (permits rows.rotation x) → Between 4 4 x
+at-rotation = through-the-door rows.rotation 0 (4 * unity) (4 * unity) table.rotation-ends 4 4 (lit≤ tt) (lit≤ tt)
+
+at-correction : (x : Float) → T (fits binary32 x) → T (permits rows.correction x) → Between 6 6 x
+at-correction = through-the-door rows.correction 0 (6 * unity) (6 * unity) table.correction-ends 6 6 (lit≤ tt) (lit≤ tt)
+
+at-offset : (x : Float) → T (fits binary32 x) → T (permits rows.offset x) → Between 2 2 x
+at-offset = through-the-door rows.offset 0 (2 * unity) (2 * unity) table.offset-ends 2 2 (lit≤ tt) (lit≤ tt)
+
+at-length : (x : Float) → T (fits binary32 x) → T (permits rows.legLength x) → Between 0 1 x
+at-length = through-the-door rows.legLength (2 ^ 141) 0 unity table.leg-length-ends 0 1 (lit≤ tt) (lit≤ tt)
+
+at-motor : (x : Float) → T (fits binary32 x) → T (permits rows.motorAngle x) → Between 0 8 x
+at-motor = through-the-door rows.motorAngle 0 0 (8 * unity) table.motor-angle-ends 0 8 (lit≤ tt) (lit≤ tt)
+
+ninety-between : Between 0 2 ninety
+unfolding ninety ofBits fits hi lo
+ninety-between = record { held = tt; ok = (refl, refl); low = lit≤ tt; high = lit≤ tt }
+
+oneFifty-between : Between 0 3 oneFifty
+unfolding oneFifty ofBits fits hi lo
+oneFifty-between = record { held = tt; ok = (refl, refl); low = lit≤ tt; high = lit≤ tt }
+
+-- ---- the same of records
+record PointBounds (p : Point) : Type 0 where
+  x : Between 4 4 (p .x)
+  y : Between 4 4 (p .y)
+  z : Between 4 4 (p .z)
+
+point-bounds : (p : Point) → HeldPoint p → T (permittedPoint rows.foot p) → PointBounds p
+unfolding permittedPoint
+point-bounds p H h =
+    let x = permits rows.foot (p .x) in
+    let y = permits rows.foot (p .y) in
+    let z = permits rows.foot (p .z) in
+    let xy = and-l (x && y) z h in
+    record { x = at-foot (p .x) (H .x) (and-l x y xy); y = at-foot (p .y) (H .y) (and-r x y xy); z = at-foot (p .z) (H .z) (and-r (x && y) z h) }
+
+record LegBounds (l : LegConfiguration) : Type 0 where
+  position : PointBounds (l .position)
+  angle : Between 4 4 (l .«angle_offset»)
+  femur : Between 6 6 (l .«femur_correction»)
+  tibia : Between 6 6 (l .«tibia_correction»)
+
+leg-bounds : (l : LegConfiguration) → HeldLeg l → T (permittedLeg l) → LegBounds l
+unfolding permittedLeg
+leg-bounds l H h =
+    let p = permittedPoint rows.foot (l .position) in
+    let a = permits rows.rotation (l .«angle_offset») in
+    let f = permits rows.correction (l .«femur_correction») in
+    let t = permits rows.correction (l .«tibia_correction») in
+    let paf = and-l (p && a && f) t h in
+    let pa = and-l (p && a) f paf in
+    record {
+      position = point-bounds (l .position) (H .position) (and-l p a pa);
+      angle = at-rotation (l .«angle_offset») (H .angle) (and-r p a pa);
+      femur = at-correction (l .«femur_correction») (H .femur) (and-r (p && a) f paf);
+      tibia = at-correction (l .«tibia_correction») (H .tibia) (and-r (p && a && f) t h);
+    }
+
+record BodyBounds (b : Body) : Type 0 where
+  coxa : Between 0 1 (b .«coxa_length»)
+  femur : Between 2 2 (b .«femur_offset»)
+  tibia : Between 2 2 (b .«tibia_offset»)
+
+body-bounds : (b : Body) → HeldBody b → T (permittedBody b) → BodyBounds b
+unfolding permittedBody
+body-bounds b H h =
+    let c = permits rows.legLength (b .«coxa_length») in
+    let f = permits rows.legLength (b .«femur_length») in
+    let t = permits rows.legLength (b .«tibia_length») in
+    let i = permits rows.offset (b .«femur_offset») in
+    let j = permits rows.offset (b .«tibia_offset») in
+    let cfti = and-l (c && f && t && i) j h in
+    record {
+      coxa = at-length (b .«coxa_length») (H .coxa) (and-l c f (and-l (c && f) t (and-l (c && f && t) i cfti)));
+      femur = at-offset (b .«femur_offset») (H .femur) (and-r (c && f && t) i cfti);
+      tibia = at-offset (b .«tibia_offset») (H .tibia) (and-r (c && f && t && i) j h);
+    }
+
+record AngleBounds (a : LegAngles) : Type 0 where
+  coxa : Between 0 8 (a .coxa)
+  femur : Between 0 8 (a .femur)
+  tibia : Between 0 8 (a .tibia)
+
+angle-bounds : (a : LegAngles) → HeldAngles a → T (permittedAngles a) → AngleBounds a
+unfolding permittedAngles
+angle-bounds a H h =
+    let c = permits rows.motorAngle (a .coxa) in
+    let f = permits rows.motorAngle (a .femur) in
+    let t = permits rows.motorAngle (a .tibia) in
+    let cf = and-l (c && f) t h in
+    record { coxa = at-motor (a .coxa) (H .coxa) (and-l c f cf); femur = at-motor (a .femur) (H .femur) (and-r c f cf); tibia = at-motor (a .tibia) (H .tibia) (and-r (c && f) t h) }
+
+-- ---- inverse kinematics: every argument of one leg
+pub record IkArguments (target : Point) (b : Body) (l : LegConfiguration) : Type 0 where
+  pub coxa-y : T (permits rows.atan2Argument (relative target (l .position) .y))
+  pub coxa-x : T (permits rows.atan2Argument (relative target (l .position) .x))
+  pub sideways : T (permits rows.rootArgument (add binary32 (square (relative target (l .position) .x)) (square (relative target (l .position) .y))))
+  pub straight :
+      T
+      (permits rows.rootArgument
+      (add binary32 (square (horizontalDistance (relative target (l .position)) (b .«coxa_length»))) (square (relative target (l .position) .z))))
+  pub ground-y : T (permits rows.atan2Argument (horizontalDistance (relative target (l .position)) (b .«coxa_length»)))
+  pub ground-x : T (permits rows.atan2Argument (neg (relative target (l .position) .z)))
+
+-- the f32 12, which is at least the root of 8² + 8²
+twelve : Float
+twelve = fin false 3 (pos 2)
+
+sine-row : {N Q : ℕ} {x : Float} → Between N Q x → N ≤ 16 → Q ≤ 16 → T (permits rows.sineArgument x)
+sine-row b n q = in-the-table rows.sineArgument (16 * unity) (16 * unity) table.sine-argument-ends (lit≤ tt) (lit≤ tt) (wider b n q)
+
+atan2-row : {N Q : ℕ} {x : Float} → Between N Q x → N ≤ 128 → Q ≤ 128 → T (permits rows.atan2Argument x)
+atan2-row b n q = in-the-table rows.atan2Argument (128 * unity) (128 * unity) table.atan2-argument-ends (lit≤ tt) (lit≤ tt) (wider b n q)
+
+root-row : {Q : ℕ} {x : Float} → Between 0 Q x → Q ≤ 65536 → T (permits rows.rootArgument x)
+root-row b q = in-the-table rows.rootArgument 0 (65536 * unity) table.root-argument-ends {N = 0} (lit≤ tt) (lit≤ tt) (wider b (lit≤ tt) q)
+
+-- the foot lies at most 8 from its coxa in each coordinate, so at most 12 sideways
+ik-arguments : (target : Point) (b : Body) (l : LegConfiguration) → PointBounds target → BodyBounds b → LegBounds l → IkArguments target b l
+unfolding relative horizontalDistance twelve mag fits
+ik-arguments target b l P B L =
+    let x = difference-between (P .x) (L .position .x) (lit< tt) (lit< tt) in
+    let y = difference-between (P .y) (L .position .y) (lit< tt) (lit< tt) in
+    let z = difference-between (P .z) (L .position .z) (lit< tt) (lit< tt) in
+    let side = sum-between (square-between x (lit< tt)) (square-between y (lit< tt)) (lit< tt) (lit< tt) in
+    let h = difference-between (root-between side 12 twelve tt refl (lit≤ tt)) (B .coxa) (lit< tt) (lit< tt) in
+    let far = sum-between (square-between {k = 12} (wider h (lit≤ tt) (lit≤ tt)) (lit< tt)) (square-between z (lit< tt)) (lit< tt) (lit< tt) in
+    record {
+      coxa-y = atan2-row y (lit≤ tt) (lit≤ tt);
+      coxa-x = atan2-row x (lit≤ tt) (lit≤ tt);
+      sideways = root-row side (lit≤ tt);
+      straight = root-row far (lit≤ tt);
+      ground-y = atan2-row h (lit≤ tt) (lit≤ tt);
+      ground-x = atan2-row (flip-between z) (lit≤ tt) (lit≤ tt);
+    }
+
+-- and whatever the quotient, arc cosine is handed a number from -1 to 1
+le-of-lt : (x y : Float) → lt x y ≡ true → T (le x y)
+unfolding le
+le-of-lt x y h = rw h tt
+
+at-most-one : (q : Float) (t : Bool) → lt q one ≡ t → T (le (choose t q one) one)
+unfolding le lt eq ofBits
+at-most-one q true h = le-of-lt q one h
+at-most-one q false h = tt
+
+from-minus-one : (m : Float) (t : Bool) → lt minusOne m ≡ t → T (le m one) → T (permits rows.arcCosineArgument (choose t m minusOne))
+unfolding rows.arcCosineArgument le lt eq ofBits neg
+from-minus-one m true h u = and-i (le minusOne m) (le m one) (le-of-lt minusOne m h) u
+from-minus-one m false h u = tt
+
+pub cut-within : (q : Float) → T (permits rows.arcCosineArgument (cut q))
+unfolding cut
+cut-within q = from-minus-one (lesser one q) (lt minusOne (lesser one q)) refl (at-most-one q (lt q one) refl)
+
+-- ---- forward kinematics: every argument of one leg
+pub record FkArguments (m : LegAngles) (b : Body) (l : LegConfiguration) : Type 0 where
+  pub base : T (permits rows.sineArgument (baseAngle m l))
+  pub femur : T (permits rows.sineArgument (femurTurn m b l))
+  pub tibia : T (permits rows.sineArgument (tibiaTurn m b l))
+
+-- an angle in the leg lies from 0 to 8
+from-motor : {m c o : Float} → Between 0 8 m → Between 6 6 c → Between 2 2 o → Between 0 8 (fromMotor m c o)
+unfolding fromMotor
+from-motor m c o = magnitude-between {k = 8} (difference-between m (magnitude-between {k = 8} (sum-between c o (lit< tt) (lit< tt))) (lit< tt) (lit< tt))
+
+-- so the base's from -7 to 12, the femur's from -2 to 8 and the tibia's from -4 to 16
+fk-arguments : (m : LegAngles) (b : Body) (l : LegConfiguration) → AngleBounds m → BodyBounds b → LegBounds l → FkArguments m b l
+unfolding baseAngle femurTurn tibiaTurn
+fk-arguments m b l M B L =
+    let base = difference-between (difference-between (M .coxa) oneFifty-between (lit< tt) (lit< tt)) (L .angle) (lit< tt) (lit< tt) in
+    let femur = difference-between (from-motor (M .femur) (L .femur) (B .femur)) ninety-between (lit< tt) (lit< tt) in
+    let rest = difference-between ninety-between femur (lit< tt) (lit< tt) in
+    let tibia = difference-between (from-motor (M .tibia) (L .tibia) (B .tibia)) rest (lit< tt) (lit< tt) in
+    record {
+      base = sine-row base (lit≤ tt) (lit≤ tt);
+      femur = sine-row femur (lit≤ tt) (lit≤ tt);
+      tibia = sine-row tibia (lit≤ tt) (lit≤ tt);
+    }
+
+-- ---- from the door: no refusal says that all is permitted, of each leg too
+none-refused : (F P : Bool) → either (unless F 1) (unless P 2) ≡ 0 → T P
+none-refused true true e = tt
+none-refused true false e = absurd (omega arith)
+none-refused false P e = absurd (omega arith)
+
+each : (t : Leg → Bool) → T (every t) → (l : Leg) → T (t l)
+each t h l =
+    let a = t leftFront in
+    let b = t rightFront in
+    let c = t leftMiddle in
+    let d = t rightMiddle in
+    let e = t leftRear in
+    let f = t rightRear in
+    let abcde = and-l (a && b && c && d && e) f h in
+    let abcd = and-l (a && b && c && d) e abcde in
+    let abc = and-l (a && b && c) d abcd in
+    let ab = and-l (a && b) c abc in
+    pick (and-l a b ab) (and-r a b ab) (and-r (a && b) c abc) (and-r (a && b && c) d abcd) (and-r (a && b && c && d) e abcde) (and-r (a && b && c && d && e) f h) l
+  where
+    pick : T (t leftFront) → T (t rightFront) → T (t leftMiddle) → T (t rightMiddle) → T (t leftRear) → T (t rightRear) → (l : Leg) → T (t l)
+    pick a b c d e f leftFront = a
+    pick a b c d e f rightFront = b
+    pick a b c d e f leftMiddle = c
+    pick a b c d e f rightMiddle = d
+    pick a b c d e f leftRear = e
+    pick a b c d e f rightRear = f
+
+module _ (c : Configuration) (C : HeldConfiguration c) (h : T (permittedConfiguration c)) where
+  legs-bounds : (l : Leg) → LegBounds (leg c l)
+  unfolding permittedConfiguration
+  legs-bounds l = leg-bounds (leg c l) (C .legs l) (each (λ l. permittedLeg (leg c l)) (and-l (every (λ l. permittedLeg (leg c l))) (permittedBody (c .body)) h) l)
+
+  shared-bounds : BodyBounds (c .body)
+  unfolding permittedConfiguration
+  shared-bounds = body-bounds (c .body) (C .body) (and-r (every (λ l. permittedLeg (leg c l))) (permittedBody (c .body)) h)
+
+pub ik-within : (f : Feet) (c : Configuration) → ((l : Leg) → HeldPoint (foot f l)) → HeldConfiguration c → ikRefusal f c ≡ 0 → (l : Leg) → IkArguments (foot f l) (c .body) (leg c l)
+unfolding ikRefusal
+ik-within f c F C e l =
+    let p = every (λ l. permittedPoint rows.foot (foot f l)) in
+    let h = none-refused (every (λ l. finitePoint (foot f l)) && finiteConfiguration c) (p && permittedConfiguration c) e in
+    let g = and-r p (permittedConfiguration c) h in
+    ik-arguments (foot f l) (c .body) (leg c l)
+    (point-bounds (foot f l) (F l) (each (λ l. permittedPoint rows.foot (foot f l)) (and-l p (permittedConfiguration c) h) l))
+    (shared-bounds c C g)
+    (legs-bounds c C g l)
+
+pub fk-within : (j : Joints) (c : Configuration) → ((l : Leg) → HeldAngles (angles j l)) → HeldConfiguration c → fkRefusal j c ≡ 0 → (l : Leg) → FkArguments (angles j l) (c .body) (leg c l)
+unfolding fkRefusal
+fk-within j c F C e l =
+    let p = every (λ l. permittedAngles (angles j l)) in
+    let h = none-refused (every (λ l. finiteAngles (angles j l)) && finiteConfiguration c) (p && permittedConfiguration c) e in
+    let g = and-r p (permittedConfiguration c) h in
+    fk-arguments (angles j l) (c .body) (leg c l)
+    (angle-bounds (angles j l) (F l) (each (λ l. permittedAngles (angles j l)) (and-l p (permittedConfiguration c) h) l))
+    (shared-bounds c C g)
+    (legs-bounds c C g l)

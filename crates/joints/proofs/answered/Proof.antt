@@ -1,0 +1,19 @@
+-- `joints::answered` meets its contract, case by case.
+use borrow.Author.Needs.{needs}
+use Rattle.joints.proofs.answered.Statement.{statement}
+use Rattle.joints.proofs.answered.Tie as tie
+
+enum-known-legs : tie.Need-enum-known-legs
+enum-known-legs c = search needs
+
+enum-told : tie.Need-enum-told
+enum-told c = search needs
+
+returns : tie.Need-returns
+returns c = rw (c .before .legs .given .1)
+
+returns-2 : tie.Need-returns-2
+returns-2 c = search needs
+
+pub answered-spec : {M : Type 1} → statement M
+answered-spec = tie.close (tie.spec enum-known-legs enum-told returns returns-2)

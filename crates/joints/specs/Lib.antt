@@ -1,0 +1,5 @@
+pub mod Configured
+pub mod Degrees
+pub mod Answers
+pub mod Inverse
+pub mod Forward

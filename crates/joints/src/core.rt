@@ -1,0 +1,193 @@
+// The solvers behind the door, total on every value, for the rooms above. The order of the float operations is the source's.
+use crate::configuration::Body;
+use crate::configuration::Configuration;
+use crate::configuration::LegConfiguration;
+use legs::Feet;
+use legs::Joints;
+use legs::LegAngles;
+use legs::Point;
+ghost use mathlib.Core.Path.{_≡_};
+ghost use Rattle.joints.specs.Inverse.{relative, targetAngle, reach, getAlphaAngle, toMotor, solvedAngles, solvedLeg, solved};
+ghost use Rattle.joints.specs.Forward.{fromMotor, standing, standingFeet};
+
+// Rust's `to_radians` of 90 and 150 degrees: 3fc90fdb and 40278d36.
+const NINETY: f32 = 1.5707964;
+
+const ONE_FIFTY: f32 = 2.6179938;
+
+// How far a foot is from the end of its coxa: sideways, and straight.
+pub struct Reach {
+    pub horizontal: f32,
+    pub distance: f32,
+}
+
+// The two sides on which a coxa can be past its limit: at 90 degrees or more, at -90 degrees or less.
+pub enum Side {
+    Positive,
+    Negative,
+}
+
+// What one leg answers: its angles, or on which side its coxa would be past the limit.
+pub enum LegSolved {
+    Angles(LegAngles),
+    Past(Side),
+}
+
+// What six legs answer: their angles, or the first leg that is past the limit, 0 to 5 in row order, and on which side.
+pub enum LegsSolved {
+    Joints(Joints),
+    Past(u32, Side),
+}
+
+// From the coxa's place to the target.
+pub fn relative(target: Point, position: Point) -> Point
+    ensures { λ r. ⌜ r ≡ relative target position ⌝ }
+{
+    Point {
+        x: target.x - position.x,
+        y: target.y - position.y,
+        z: target.z - position.z,
+    }
+}
+
+// How far the foot at v is from the end of a coxa of this length.
+pub fn reach_of(v: Point, length: f32) -> Reach
+    ensures { λ r. ⌜ r ≡ reach v length ⌝ }
+{
+    let horizontal = roots::core::square_root(v.x * v.x + v.y * v.y) - length;
+    let distance = roots::core::square_root(horizontal * horizontal + v.z * v.z);
+    Reach {
+        horizontal: horizontal,
+        distance: distance,
+    }
+}
+
+// The angle across from a, in a triangle with sides a, b, c. A quotient out of reach is cut to -1 or 1, and a NaN becomes 1.
+pub fn get_alpha_angle(a: f32, b: f32, c: f32) -> f32
+    ensures { λ r. ⌜ r ≡ getAlphaAngle a b c ⌝ }
+{
+    let upper = b * b + c * c - a * a;
+    let bottom = 2.0 * b * c;
+    let quotient = upper / bottom;
+    arcs::core::arc_cosine(numbers::core::max(-1.0, numbers::core::min(1.0, quotient)))
+}
+
+// What a motor is told, for an angle in the leg.
+pub fn to_motor(correction: f32, offset: f32, angle: f32) -> f32
+    ensures { λ r. ⌜ r ≡ toMotor correction offset angle ⌝ }
+{
+    numbers::core::absolute(correction + offset + angle)
+}
+
+// The three angles of a leg whose foot is at v and whose coxa turns by this angle.
+pub fn solved_angles(v: Point, angle: f32, body: Body, leg: LegConfiguration) -> LegAngles
+    ensures { λ r. ⌜ r ≡ solvedAngles v angle body leg ⌝ }
+{
+    let to = reach_of(v, body.coxa_length);
+    let by_tibia = get_alpha_angle(to.distance, body.femur_length, body.tibia_length);
+    let by_femur = get_alpha_angle(body.tibia_length, body.femur_length, to.distance);
+    let ground = arcs::core::atan2(to.horizontal, -v.z);
+    LegAngles {
+        coxa: ONE_FIFTY + angle,
+        femur: to_motor(leg.femur_correction, body.femur_offset, by_femur + ground),
+        tibia: to_motor(leg.tibia_correction, body.tibia_offset, by_tibia),
+    }
+}
+
+// One leg's angles, or on which side its coxa would be past the limit.
+pub fn calculate_ik_for_leg(target: Point, body: Body, leg: LegConfiguration) -> LegSolved
+    ensures { λ r. ⌜ r ≡ solvedLeg target body leg ⌝ }
+{
+    let v = relative(target, leg.position);
+    let target_angle = arcs::core::atan2(v.y, v.x) + leg.angle_offset;
+    if target_angle >= NINETY {
+        LegSolved::Past(Side::Positive)
+    } else if target_angle <= -NINETY {
+        LegSolved::Past(Side::Negative)
+    } else {
+        LegSolved::Angles(solved_angles(v, target_angle, body, leg))
+    }
+}
+
+// Six legs, in the source's order; the first that is past its limit decides.
+pub fn calculate_ik(feet: Feet, config: Configuration) -> LegsSolved
+    ensures { λ r. ⌜ r ≡ solved feet config ⌝ }
+{
+    let body = config.body;
+    let left_front = match calculate_ik_for_leg(feet.left_front, body, config.left_front) {
+        LegSolved::Angles(angles) => angles,
+        LegSolved::Past(side) => return LegsSolved::Past(0, side),
+    };
+    let right_front = match calculate_ik_for_leg(feet.right_front, body, config.right_front) {
+        LegSolved::Angles(angles) => angles,
+        LegSolved::Past(side) => return LegsSolved::Past(1, side),
+    };
+    let left_middle = match calculate_ik_for_leg(feet.left_middle, body, config.left_middle) {
+        LegSolved::Angles(angles) => angles,
+        LegSolved::Past(side) => return LegsSolved::Past(2, side),
+    };
+    let right_middle = match calculate_ik_for_leg(feet.right_middle, body, config.right_middle) {
+        LegSolved::Angles(angles) => angles,
+        LegSolved::Past(side) => return LegsSolved::Past(3, side),
+    };
+    let left_rear = match calculate_ik_for_leg(feet.left_rear, body, config.left_rear) {
+        LegSolved::Angles(angles) => angles,
+        LegSolved::Past(side) => return LegsSolved::Past(4, side),
+    };
+    let right_rear = match calculate_ik_for_leg(feet.right_rear, body, config.right_rear) {
+        LegSolved::Angles(angles) => angles,
+        LegSolved::Past(side) => return LegsSolved::Past(5, side),
+    };
+    LegsSolved::Joints(Joints {
+        left_front: left_front,
+        left_middle: left_middle,
+        left_rear: left_rear,
+        right_front: right_front,
+        right_middle: right_middle,
+        right_rear: right_rear,
+    })
+}
+
+// The angle in the leg, for what its motor says.
+pub fn from_motor(motor: f32, correction: f32, offset: f32) -> f32
+    ensures { λ r. ⌜ r ≡ fromMotor motor correction offset ⌝ }
+{
+    numbers::core::absolute(motor - numbers::core::absolute(correction + offset))
+}
+
+// Where one foot stands at these motor angles.
+pub fn calculate_fk_for_leg(motors: LegAngles, body: Body, leg: LegConfiguration) -> Point
+    ensures { λ r. ⌜ r ≡ standing motors body leg ⌝ }
+{
+    let femur_angle = from_motor(motors.femur, leg.femur_correction, body.femur_offset);
+    let tibia_angle = from_motor(motors.tibia, leg.tibia_correction, body.tibia_offset);
+    let base_angle = motors.coxa - ONE_FIFTY - leg.angle_offset;
+    let base_x = sines::core::cosine(base_angle);
+    let base_y = sines::core::sine(base_angle);
+    let femur_turn = femur_angle - NINETY;
+    let femur_x = sines::core::sine(femur_turn) * body.femur_length;
+    let femur_y = sines::core::cosine(femur_turn) * body.femur_length;
+    let tibia_turn = tibia_angle - (NINETY - femur_turn);
+    let tibia_x = sines::core::sine(tibia_turn) * body.tibia_length;
+    let tibia_y = sines::core::cosine(tibia_turn) * body.tibia_length;
+    Point {
+        x: leg.position.x + base_x * body.coxa_length + base_x * femur_y + base_x * tibia_x,
+        y: leg.position.y + base_y * body.coxa_length + base_y * femur_y + base_y * tibia_x,
+        z: leg.position.z + 0.0 * body.coxa_length + femur_x + -tibia_y,
+    }
+}
+
+// Six feet, leg by leg.
+pub fn calculate_fk(joints: Joints, config: Configuration) -> Feet
+    ensures { λ r. ⌜ r ≡ standingFeet joints config ⌝ }
+{
+    let body = config.body;
+    Feet {
+        left_front: calculate_fk_for_leg(joints.left_front, body, config.left_front),
+        left_middle: calculate_fk_for_leg(joints.left_middle, body, config.left_middle),
+        left_rear: calculate_fk_for_leg(joints.left_rear, body, config.left_rear),
+        right_front: calculate_fk_for_leg(joints.right_front, body, config.right_front),
+        right_middle: calculate_fk_for_leg(joints.right_middle, body, config.right_middle),
+        right_rear: calculate_fk_for_leg(joints.right_rear, body, config.right_rear),
+    }
+}

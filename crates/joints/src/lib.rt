@@ -1,0 +1,84 @@
+// Joint angles for foot points, and foot points for joint angles (source 002).
+// Lengths are metres, angles radians.
+use crate::configuration::Configuration;
+use legs::Feet;
+use legs::Joints;
+use legs::Planned;
+use numbers::limits;
+ghost use mathlib.Core.Path.{_≡_};
+ghost use Rattle.legs.specs.Answers.{told as toldFeet};
+ghost use Rattle.joints.specs.Answers.{told};
+ghost use Rattle.joints.specs.Inverse.{ikRefusal, ikTold, answered};
+ghost use Rattle.joints.specs.Forward.{fkRefusal, fkTold};
+
+pub mod configuration;
+pub mod core;
+
+// What the solver answers: eighteen joint angles, or why not.
+pub enum Solution {
+    Solved(Joints),
+    Refused(u32),
+}
+
+// Why feet are refused at the door: the lowest number that applies, or 0.
+pub fn ik_refused(feet: Feet, config: Configuration) -> u32
+    ensures { λ r. ⌜ r ≡ ikRefusal feet config ⌝ }
+{
+    let foot = limits::foot();
+    let permitted = legs::core::feet_permitted(foot, feet) & configuration::permitted(config);
+    if permitted {
+        0
+    } else if legs::core::feet_finite(feet) & configuration::finite(config) {
+        2
+    } else {
+        1
+    }
+}
+
+// Refusal 6 for a leg past the limit on either side.
+fn answered(legs: core::LegsSolved) -> Solution
+    ensures { λ r. ⌜ r ≡ answered legs ⌝ }
+{
+    match legs {
+        core::LegsSolved::Joints(joints) => Solution::Solved(joints),
+        core::LegsSolved::Past(_, _) => Solution::Refused(6),
+    }
+}
+
+// The joint angles that put the six feet there.
+pub fn calculate_ik(feet: Feet, config: Configuration) -> Solution
+    ensures { λ r. ⌜ told r ≡ ikTold feet config ⌝ }
+{
+    let n = ik_refused(feet, config);
+    if n == 0 {
+        answered(core::calculate_ik(feet, config))
+    } else {
+        Solution::Refused(n)
+    }
+}
+
+// Why joint angles are refused at the door: the lowest number that applies, or 0.
+pub fn fk_refused(joints: Joints, config: Configuration) -> u32
+    ensures { λ r. ⌜ r ≡ fkRefusal joints config ⌝ }
+{
+    let permitted = configuration::joints_permitted(joints) & configuration::permitted(config);
+    if permitted {
+        0
+    } else if configuration::joints_finite(joints) & configuration::finite(config) {
+        2
+    } else {
+        1
+    }
+}
+
+// Where the feet stand at these joint angles.
+pub fn calculate_fk(joints: Joints, config: Configuration) -> Planned
+    ensures { λ r. ⌜ toldFeet r ≡ fkTold joints config ⌝ }
+{
+    let n = fk_refused(joints, config);
+    if n == 0 {
+        Planned::Feet(core::calculate_fk(joints, config))
+    } else {
+        Planned::Refused(n)
+    }
+}
