@@ -13,9 +13,14 @@ use Rattle.lines.specs.declared.listed.Line.the-variants.{Move}
 use Rattle.lines.specs.declared.listed.Found.the-variants.{Known, NoLine}
 use Rattle.lines.specs.declared.record.Asked.{Asked}
 use Rattle.lines.specs.declared.record.Asked.the-variants.{Record, NoRecord}
-use Rattle.lines.specs.Parts.{tabbed, tabbeds, allGood, bitsOf}
-use Rattle.lines.specs.Reading.{stepCount, moved, moveOf}
-use Rattle.lines.specs.Record.{recordOf, walkOf}
+use Rattle.lines.specs.Digits.{choose}
+use Rattle.lines.specs.Parts.{tabbed, threeAt, tabbeds, allGood, bitsOf}
+use Rattle.lines.specs.Reading.{stepCount, moveOf}
+use Rattle.lines.specs.Record.{recordOf, walkFrom}
+
+three-tests : (t x y z : Bool) → (t && x && y && z) ≡ (t && (x && y && z))
+three-tests true x y z = refl
+three-tests false x y z = refl
 
 module _ (s : List ℕ) where
   -- one field, and those from nine bytes on
@@ -23,42 +28,49 @@ module _ (s : List ℕ) where
   unfolding tabbeds
   field-next k at f fs e h = cc (ap (tabbeds k) (drop-drop 9 at s))
 
-  pub fields-three : (at : ℕ) (x y z : Field) → x ≡ tabbed (drop at s) → y ≡ tabbed (drop (at + 9) s) → z ≡ tabbed (drop (at + 9 + 9) s) → tabbeds 3 (drop at s) ≡ x ∷ y ∷ z ∷ []
+  abbrev field : ℕ → Field
+  field at = tabbed (drop at s)
+
+  fields-three : (at : ℕ) → tabbeds 3 (drop at s) ≡ field at ∷ field (at + 9) ∷ field (at + 9 + 9) ∷ []
   unfolding tabbeds
-  fields-three at x y z e₀ e₁ e₂ =
-      field-next 2 at x (y ∷ z ∷ []) e₀ (field-next 1 (at + 9) y (z ∷ []) e₁ (field-next 0 (at + 9 + 9) z [] e₂ refl))
+  fields-three at =
+      field-next 2 at (field at) _ refl (field-next 1 (at + 9) (field (at + 9)) _ refl (field-next 0 (at + 9 + 9) (field (at + 9 + 9)) [] refl refl))
 
-  module _ (m a b c d e f : Field) (e₀ : m ≡ tabbed (drop 1 s)) (e₁ : a ≡ tabbed (drop 10 s)) (e₂ : b ≡ tabbed (drop 19 s)) (e₃ : c ≡ tabbed (drop 28 s)) (e₄ : d ≡ tabbed (drop 37 s)) (e₅ : e ≡ tabbed (drop 46 s)) (e₆ : f ≡ tabbed (drop 55 s)) where
-    abbrev seven : List Field
-    seven = m ∷ a ∷ b ∷ c ∷ d ∷ e ∷ f ∷ []
+  fields-seven : tabbeds 7 (drop 1 s) ≡ field 1 ∷ field 10 ∷ field 19 ∷ field 28 ∷ field 37 ∷ field 46 ∷ field 55 ∷ []
+  unfolding tabbeds
+  fields-seven =
+      field-next 6 1 (field 1) _ refl
+      (field-next 5 10 (field 10) _ refl
+      (field-next 4 19 (field 19) _ refl
+      (field-next 3 28 (field 28) _ refl (fields-three 37))))
 
-    fields-seven : tabbeds 7 (drop 1 s) ≡ seven
-    unfolding tabbeds
-    fields-seven =
-        field-next 6 1 m _ e₀
-        (field-next 5 10 a _ e₁
-        (field-next 4 19 b _ e₂
-        (field-next 3 28 c _ e₃ (field-next 2 37 d _ e₄ (field-next 1 46 e _ e₅ (field-next 0 55 f [] e₆ refl))))))
+  -- the tests of a record, three by three
+  abbrev started : Bool
+  started = eqb (getD s 0 0) 87 && field 1 .good
 
-    pub record-yes : length s ≡ 64 → allGood (eqb (getD s 0 0) 87) seven ≡ true → Record (walkOf (bitsOf seven)) ≡ recordOf s
-    unfolding recordOf allGood bitsOf
-    record-yes long good = rw (eq-eqb (length s) 64 long, fields-seven, good)
+  record-tests : allGood (eqb (getD s 0 0) 87) (tabbeds 7 (drop 1 s)) ≡ (started && threeAt s 10 .good && threeAt s 37 .good)
+  unfolding allGood
+  record-tests =
+      ap (allGood (eqb (getD s 0 0) 87)) fields-seven
+      ∙ three-tests (started && field 10 .good && field 19 .good && field 28 .good) (field 37 .good) (field 46 .good) (field 55 .good)
+      ∙ ap (λ (t : Bool). t && threeAt s 37 .good) (three-tests started (field 10 .good) (field 19 .good) (field 28 .good))
 
-    pub record-no : length s ≡ 64 → allGood (eqb (getD s 0 0) 87) seven ≡ false → NoRecord ≡ recordOf s
-    unfolding recordOf allGood bitsOf
-    record-no long bad = rw (eq-eqb (length s) 64 long, fields-seven, bad)
+  pub record-yes : length s ≡ 64 → (started && threeAt s 10 .good && threeAt s 37 .good) ≡ true → Record (walkFrom (field 1 .bits) (threeAt s 10) (threeAt s 37)) ≡ recordOf s
+  unfolding recordOf bitsOf
+  record-yes long good = rw (eq-eqb (length s) 64 long, record-tests, good, fields-seven)
 
-  module _ (limit : ℕ) (n : Digits) (x y z : Field) (e : n ≡ stepCount limit s) (e₀ : x ≡ tabbed (drop (length s - 27) s)) (e₁ : y ≡ tabbed (drop (length s - 27 + 9) s)) (e₂ : z ≡ tabbed (drop (length s - 27 + 9 + 9) s)) (long : 29 ≤ length s) where
-    abbrev three : List Field
-    three = x ∷ y ∷ z ∷ []
+  pub record-no : length s ≡ 64 → (started && threeAt s 10 .good && threeAt s 37 .good) ≡ false → NoRecord ≡ recordOf s
+  unfolding recordOf
+  record-no long bad = rw (eq-eqb (length s) 64 long, record-tests, bad)
+
+  module _ (limit : ℕ) (long : 29 ≤ length s) where
+    abbrev last : ℕ
+    last = length s - 27
 
     abbrev begun : Bool
-    begun = eqb (getD s 0 0) 77 && eqb (getD s 1 0) 9 && n .good
+    begun = eqb (getD s 0 0) 77 && eqb (getD s 1 0) 9 && stepCount limit s .good
 
-    pub move-yes : allGood begun three ≡ true → Known (Move (moved (n .value) (bitsOf three))) ≡ moveOf limit s
-    unfolding moveOf
-    move-yes good = rw (← e, le-ltb (length s) 29 long, fields-three (length s - 27) x y z e₀ e₁ e₂, good)
-
-    pub move-no : allGood begun three ≡ false → NoLine ≡ moveOf limit s
-    unfolding moveOf
-    move-no bad = rw (← e, le-ltb (length s) 29 long, fields-three (length s - 27) x y z e₀ e₁ e₂, bad)
+    pub move-is : choose (begun && threeAt s last .good) (Known (Move (record { count = stepCount limit s .value; x = threeAt s last .x; y = threeAt s last .y; z = threeAt s last .z }))) NoLine ≡ moveOf limit s
+    unfolding moveOf allGood bitsOf
+    move-is =
+        rw (le-ltb (length s) 29 long, fields-three last, three-tests begun (field last .good) (field (last + 9) .good) (field (last + 9 + 9) .good))

@@ -6,13 +6,14 @@ use Prim.Native.Nat.{ℕ, suc, _+_, _*_, _%_, _≤_, _<_, _^_}
 use native.Mathlib.Nat.{pow-zero, pow-suc, pow-succ', mul-one, mul-assoc, add-zero, mul-le-mul-left, mod-lt, pow-le-pow-right}
 use native.Mathlib.Numerals.{add-one}
 use native.Mathlib.Omega.{arith}
-use lib.Dec.{leb, lit<, lit≤}
+use lib.Dec.{eqb, leb, lit<, lit≤}
 use borrow.Author.Tests.{leb-true, eq-eqb, ne-eqb}
 use lib.ListN.{length, getD, drop, drop-of-length-le}
 use lib.Seq.{drop-cons}
 use Rattle.lines.specs.declared.digits.Digits.{Digits}
 use Rattle.lines.specs.Digits.{valueOf, push, pushAll, nothingYet, readIn, noDigits, leads, hexOf, countOf}
 use Rattle.lines.specs.Fields.{span}
+use Rattle.lines.specs.Reading.{spells}
 use Rattle.lines.proofs.Flags.{and-left, and-right, chosen}
 
 module _ (s : List ℕ) (i : ℕ) (h : i < length s) where
@@ -30,6 +31,10 @@ module _ (s : List ℕ) (i : ℕ) (h : i < length s) where
   pub span-step : (sep : ℕ) → (getD s i 0 ≡ sep → ⊥) → span sep (drop i s) ≡ span sep (drop (i + 1) s) + 1
   unfolding span
   span-step sep n = ap (span sep) from-on ∙ simp (ne-eqb _ sep n, add-one)
+
+  -- one byte of a word
+  pub spells-step : (t : Bool) (text : List ℕ) → spells t i (drop i s) text ≡ spells (t && eqb (getD text i 0) (getD s i 0)) (i + 1) (drop (i + 1) s) text
+  spells-step t text = ap (λ (ws : List ℕ). spells t i ws text) from-on ∙ rw (add-one i)
 
 pub span-end : (s : List ℕ) (i : ℕ) → length s ≤ i → (sep : ℕ) → span sep (drop i s) ≡ 0
 unfolding span

@@ -4,12 +4,20 @@ ghost use mathlib.Core.Path.{_≡_};
 ghost use Prim.Native.Nat.{_+_, _≤_};
 ghost use lib.ListN.{length, drop};
 ghost use Rattle.lines.specs.Fields.{fieldEnd};
-ghost use Rattle.lines.specs.Parts.{tabbed, shortOf};
+ghost use Rattle.lines.specs.Parts.{tabbed, threeAt, shortOf};
 
 // A number read from a field, and whether the field was good.
 pub struct Field {
     pub good: bool,
     pub bits: u32,
+}
+
+// Three of them: x, y, z.
+pub struct Three {
+    pub good: bool,
+    pub x: u32,
+    pub y: u32,
+    pub z: u32,
 }
 
 // The place of the first separator from `from` on, or the end.
@@ -37,6 +45,22 @@ pub(crate) fn tabbed(s: &[u8], at: usize) -> Field
     Field {
         good: (s[at] == 9) & d.good,
         bits: d.value as u32,
+    }
+}
+
+// Three patterns from a place on, each after a tab.
+pub(crate) fn three_at(s: &[u8], at: usize) -> Three
+    requires { ⌜ at + 27 ≤ length (now s) ⌝ }
+    ensures { λ r. ⌜ r ≡ threeAt (now (s .entry)) at ⌝ }
+{
+    let x = tabbed(s, at);
+    let y = tabbed(s, at + 9);
+    let z = tabbed(s, at + 9 + 9);
+    Three {
+        good: x.good & y.good & z.good,
+        x: x.bits,
+        y: y.bits,
+        z: z.bits,
     }
 }
 

@@ -8,7 +8,7 @@ ghost use mathlib.Core.List.{[]};
 ghost use Prim.Native.Nat.{_+_, _≤_};
 ghost use lib.ListN.{length, getD};
 ghost use Rattle.lines.specs.Digits.{choose};
-ghost use Rattle.lines.specs.Reading.{named, headerOf, moveOf, found, lineOf};
+ghost use Rattle.lines.specs.Reading.{named, headerOf, moveOf, lineOf};
 ghost use Rattle.lines.specs.Stored.{Stored};
 ghost use Rattle.lines.specs.Lines.{written, ended, lettered, hasRoom};
 
@@ -87,6 +87,17 @@ pub fn put_line(buf: &mut [u8], at: usize, line: Line) -> usize
     }
 }
 
+// A line where the bytes were good.
+fn known(good: bool, line: Line) -> Found
+    ensures { λ r. ⌜ r ≡ choose good (Found.Known line) Found.NoLine ⌝ }
+{
+    if good {
+        Found::Known(line)
+    } else {
+        Found::NoLine
+    }
+}
+
 // The first byte of a line, 0 where there is none.
 fn first(s: &[u8]) -> u8
     ensures { λ r. ⌜ r ≡ getD (now (s .entry)) 0 0 ⌝ }
@@ -99,18 +110,14 @@ fn named(s: &[u8]) -> bool
     requires { ⌜ 12 ≤ length (now s) ⌝ }
     ensures { λ r. ⌜ r ≡ named (now (s .entry)) ⌝ }
 {
-    (s[0] == b'h')
-        & (s[1] == b'o')
-        & (s[2] == b'p')
-        & (s[3] == b'p')
-        & (s[4] == b'e')
-        & (s[5] == b'r')
-        & (s[6] == b'-')
-        & (s[7] == b'w')
-        & (s[8] == b'a')
-        & (s[9] == b'l')
-        & (s[10] == b'k')
-        & (s[11] == 9)
+    let word = b"hopper-walk\t";
+    let mut good = true;
+    let mut i: usize = 0;
+    while i < 12 {
+        good = good & (s[i] == word[i]);
+        i += 1;
+    }
+    good
 }
 
 // The header's version.
@@ -143,49 +150,15 @@ fn move_of(s: &[u8], limit: usize) -> Found
     let a: usize = 2;
     let e = n - 27;
     let d = digits::count(&s[a..e], limit);
-    let x = fields::tabbed(s, e);
-    let y = fields::tabbed(s, e + 9);
-    let z = fields::tabbed(s, e + 9 + 9);
-    if (s[0] == b'M') & (s[1] == 9) & d.good & x.good & y.good & z.good {
-        Found::Known(Line::Move(Moved {
-            count: d.value as u32,
-            x: x.bits,
-            y: y.bits,
-            z: z.bits,
-        }))
-    } else {
-        Found::NoLine
-    }
-}
-
-fn arrived(f: Field) -> Found
-    ensures { λ r. ⌜ r ≡ found Line.Arrived f ⌝ }
-{
-    if f.good {
-        Found::Known(Line::Arrived(f.bits))
-    } else {
-        Found::NoLine
-    }
-}
-
-fn refused(f: Field) -> Found
-    ensures { λ r. ⌜ r ≡ found Line.Refused f ⌝ }
-{
-    if f.good {
-        Found::Known(Line::Refused(f.bits))
-    } else {
-        Found::NoLine
-    }
-}
-
-fn headed(f: Field) -> Found
-    ensures { λ r. ⌜ r ≡ found Line.Header f ⌝ }
-{
-    if f.good {
-        Found::Known(Line::Header(f.bits))
-    } else {
-        Found::NoLine
-    }
+    let p = fields::three_at(s, e);
+    let good = (s[0] == b'M') & (s[1] == 9) & d.good & p.good;
+    let line = Line::Move(Moved {
+        count: d.value as u32,
+        x: p.x,
+        y: p.y,
+        z: p.z,
+    });
+    known(good, line)
 }
 
 // The line that some bytes are, without their newline. Counts have at most `limit` digits, and never more than nine.
@@ -197,10 +170,13 @@ pub fn line_of(s: &[u8], limit: usize) -> Found
         return move_of(s, limit);
     }
     if b == b'A' {
-        return arrived(fields::short_of(s, limit));
+        let count = fields::short_of(s, limit);
+        return known(count.good, Line::Arrived(count.bits));
     }
     if b == b'R' {
-        return refused(fields::short_of(s, limit));
+        let number = fields::short_of(s, limit);
+        return known(number.good, Line::Refused(number.bits));
     }
-    headed(header_of(s))
+    let version = header_of(s);
+    known(version.good, Line::Header(version.bits))
 }

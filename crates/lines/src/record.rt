@@ -1,9 +1,10 @@
 // The walk printer's input: a line read as a record. And the bits by which a float is written.
 use crate::fields;
+use crate::fields::Three;
 use numbers::patterns;
 use numbers::patterns::Pattern;
 ghost use mathlib.Core.Path.{_≡_};
-ghost use Rattle.lines.specs.Record.{recordOf, shownBits};
+ghost use Rattle.lines.specs.Record.{recordOf, placeOf, walkFrom, shownBits};
 
 // Three coordinates, in metres.
 pub struct Place {
@@ -33,30 +34,36 @@ pub fn record_of(s: &[u8]) -> Asked
         return Asked::NoRecord;
     }
     let m = fields::tabbed(s, 1);
-    let sx = fields::tabbed(s, 10);
-    let sy = fields::tabbed(s, 19);
-    let sz = fields::tabbed(s, 28);
-    let tx = fields::tabbed(s, 37);
-    let ty = fields::tabbed(s, 46);
-    let tz = fields::tabbed(s, 55);
-    if (s[0] == b'W') & m.good & sx.good & sy.good & sz.good & tx.good & ty.good & tz.good {
-        let start = Place {
-            x: patterns::from_pattern(sx.bits),
-            y: patterns::from_pattern(sy.bits),
-            z: patterns::from_pattern(sz.bits),
-        };
-        let target = Place {
-            x: patterns::from_pattern(tx.bits),
-            y: patterns::from_pattern(ty.bits),
-            z: patterns::from_pattern(tz.bits),
-        };
-        Asked::Record(Walk {
-            max_move: patterns::from_pattern(m.bits),
-            start,
-            target,
-        })
+    let start = fields::three_at(s, 10);
+    let target = fields::three_at(s, 37);
+    if (s[0] == b'W') & m.good & start.good & target.good {
+        Asked::Record(walk_of(m.bits, start, target))
     } else {
         Asked::NoRecord
+    }
+}
+
+// The place of three patterns.
+fn place_of(p: Three) -> Place
+    ensures { λ r. ⌜ r ≡ placeOf p ⌝ }
+{
+    Place {
+        x: patterns::from_pattern(p.x),
+        y: patterns::from_pattern(p.y),
+        z: patterns::from_pattern(p.z),
+    }
+}
+
+// The walk of seven patterns.
+fn walk_of(max_move: u32, start: Three, target: Three) -> Walk
+    ensures { λ r. ⌜ r ≡ walkFrom «max_move» start target ⌝ }
+{
+    let from = place_of(start);
+    let to = place_of(target);
+    Walk {
+        max_move: patterns::from_pattern(max_move),
+        start: from,
+        target: to,
     }
 }
 

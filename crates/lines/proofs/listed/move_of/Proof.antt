@@ -1,9 +1,9 @@
--- `lines::listed::move_of` meets its contract. The three patterns are the last 27 bytes, nine apart.
-use borrow.Author.Tests.{lt-ltb, le-ltb}
-use Rattle.lines.specs.Parts.{allGood, bitsOf}
+-- `lines::listed::move_of` meets its contract. The three patterns are the last 27 bytes.
+use mathlib.Core.Path.{_∙_}
+use borrow.Author.Tests.{lt-ltb}
 use Rattle.lines.specs.Reading.{moveOf}
 use Rattle.lines.proofs.Reading.{count-fits}
-use Rattle.lines.proofs.Places.{move-yes, move-no}
+use Rattle.lines.proofs.Places.{move-is}
 use borrow.Author.Needs.{needs}
 use Rattle.lines.proofs.listed.move_of.Statement.{statement}
 use Rattle.lines.proofs.listed.move_of.Tie as tie
@@ -27,42 +27,24 @@ part-count-end c = search needs
 count-requires : tie.Need-count-requires
 count-requires c κs = search needs
 
-tabbed-requires : tie.Need-tabbed-requires
-tabbed-requires c κs = search needs
+three-at-requires : tie.Need-three-at-requires
+three-at-requires c κs = search needs
 
-add-tabbed : tie.Need-add-tabbed
-add-tabbed c = search needs
+shared-slice-read-good : tie.Need-shared-slice-read-good
+shared-slice-read-good c = search needs
 
-tabbed-requires-2 : tie.Need-tabbed-requires-2
-tabbed-requires-2 c κs = search needs
+shared-slice-read-good-2 : tie.Need-shared-slice-read-good-2
+shared-slice-read-good-2 c = search needs
 
-add-tabbed-2 : tie.Need-add-tabbed-2
-add-tabbed-2 c = search needs
+cast-t22 : tie.Need-cast-t22
+cast-t22 c = record { fits = rw (c .before .before .before .before .before .before .count .ensures) (count-fits _ _) }
 
-add-tabbed-3 : tie.Need-add-tabbed-3
-add-tabbed-3 c = search needs
-
-tabbed-requires-3 : tie.Need-tabbed-requires-3
-tabbed-requires-3 c κs = search needs
-
-shared-slice-read-if2 : tie.Need-shared-slice-read-if2
-shared-slice-read-if2 c = search needs
-
-shared-slice-read-if2-2 : tie.Need-shared-slice-read-if2-2
-shared-slice-read-if2-2 c = search needs
-
-cast-t27 : tie.Need-cast-t27
-cast-t27 c = record { fits = rw (c .before .before .before .before .before .before .before .before .before .before .before .count .ensures) (count-fits _ _) }
+known-requires : tie.Need-known-requires
+known-requires c κs = search needs
 
 returns-2 : tie.Need-returns-2
-unfolding allGood bitsOf
 returns-2 c =
-    move-yes (c .before .before .before .before .before .before .before .before .before .before .before .before .before .before .before .args .s .now) (c .before .before .before .before .before .before .before .before .before .before .before .before .before .before .before .args .limit) _ _ _ _ (c .before .before .before .before .before .before .before .before .before .before .before .count .ensures) (c .before .before .before .before .before .before .before .before .before .before .tabbed .ensures) (c .before .before .before .before .before .before .before .before .before .tabbed2 .ensures) (c .before .before .before .before .before .before .before .before .tabbed3 .ensures) (c .before .before .before .before .before .before .before .before .before .before .before .before .before .if1 .left) (c .before .if2 .taken)
-
-returns-3 : tie.Need-returns-3
-unfolding allGood
-returns-3 c =
-    move-no (c .before .before .before .before .before .before .before .before .before .before .before .before .before .before .args .s .now) (c .before .before .before .before .before .before .before .before .before .before .before .before .before .before .args .limit) _ _ _ _ (c .before .before .before .before .before .before .before .before .before .before .count .ensures) (c .before .before .before .before .before .before .before .before .before .tabbed .ensures) (c .before .before .before .before .before .before .before .before .tabbed2 .ensures) (c .before .before .before .before .before .before .before .tabbed3 .ensures) (c .before .before .before .before .before .before .before .before .before .before .before .before .if1 .left) (c .if2 .left)
+    c .known .ensures ∙ simp (c .before .before .before .before .before .before .before .count .ensures, c .before .before .before .before .before .before .three-at .ensures) (move-is (c .before .before .before .before .before .before .before .before .before .before .before .args .s .now) (c .before .before .before .before .before .before .before .before .before .before .before .args .limit) (c .before .before .before .before .before .before .before .before .before .if1 .left))
 
 pub move-of-spec : {M : Type 1} → statement M
 move-of-spec =
@@ -74,14 +56,9 @@ move-of-spec =
     part-count-start
     part-count-end
     count-requires
-    tabbed-requires
-    add-tabbed
-    tabbed-requires-2
-    add-tabbed-2
-    add-tabbed-3
-    tabbed-requires-3
-    shared-slice-read-if2
-    shared-slice-read-if2-2
-    cast-t27
-    returns-2
-    returns-3)
+    three-at-requires
+    shared-slice-read-good
+    shared-slice-read-good-2
+    cast-t22
+    known-requires
+    returns-2)

@@ -1,64 +1,61 @@
--- `lines::listed::named` meets its contract. Its tests are those of the definition, in its order.
-use mathlib.Core.Path.{refl}
-use Rattle.lines.specs.Reading.{named}
+-- `lines::listed::named` meets its contract. The bytes passed and those left spell the name together.
+use mathlib.Core.Path.{_≡_, refl, sym, ap, _∙_}
+use mathlib.Core.Bool.{true}
+use mathlib.Core.List.{List, [], _∷_, _++_}
+use Prim.Native.Nat.{ℕ, _+_, _-_, _≤_}
+use native.Mathlib.Omega.{arith}
+use lib.ListN.{length, drop}
 use borrow.Author.Needs.{needs}
+use Rattle.lines.specs.Lines.{walkWord}
+use Rattle.lines.specs.Reading.{spells, named}
+use Rattle.lines.proofs.Reading.{spells-step}
 use Rattle.lines.proofs.listed.named.Statement.{statement}
 use Rattle.lines.proofs.listed.named.Tie as tie
 
-shared-slice-read-result : tie.Need-shared-slice-read-result
-shared-slice-read-result c = search needs
+abbrev name : List ℕ
+name = walkWord ++ (9 ∷ [])
 
-shared-slice-read-result-2 : tie.Need-shared-slice-read-result-2
-shared-slice-read-result-2 c = search needs
+abbrev Inv-loop : tie.InvT-loop
+Inv-loop s word good₀ i₀ good i = (i ≤ 12) × (word ≡ name) × (spells good i (drop i name) s ≡ spells true 0 name s)
 
-shared-slice-read-result-3 : tie.Need-shared-slice-read-result-3
-shared-slice-read-result-3 c = search needs
+abbrev μ-loop : tie.MeasureT-loop
+μ-loop s word good₀ i₀ good i = 12 - i
 
-shared-slice-read-result-4 : tie.Need-shared-slice-read-result-4
-shared-slice-read-result-4 c = search needs
+loop-holds : tie.Need-loop-holds Inv-loop μ-loop
+loop-holds c = (search needs, refl, refl)
 
-shared-slice-read-result-5 : tie.Need-shared-slice-read-result-5
-shared-slice-read-result-5 c = search needs
+shared-slice-read-good : tie.Need-shared-slice-read-good Inv-loop μ-loop
+shared-slice-read-good c = omega arith
 
-shared-slice-read-result-6 : tie.Need-shared-slice-read-result-6
-shared-slice-read-result-6 c = search needs
+element-copy-out-good : tie.Need-element-copy-out-good Inv-loop μ-loop
+element-copy-out-good c = omega arith
 
-shared-slice-read-result-7 : tie.Need-shared-slice-read-result-7
-shared-slice-read-result-7 c = search needs
+add-i : tie.Need-add-i Inv-loop μ-loop
+add-i c = search needs
 
-shared-slice-read-result-8 : tie.Need-shared-slice-read-result-8
-shared-slice-read-result-8 c = search needs
+loop-less : tie.Need-loop-less Inv-loop μ-loop
+loop-less c = search needs
 
-shared-slice-read-result-9 : tie.Need-shared-slice-read-result-9
-shared-slice-read-result-9 c = search needs
+loop-again : tie.Need-loop-again Inv-loop μ-loop
+loop-again c =
+    (omega arith, c .before .before .before .loop .inv .1, rw (c .before .before .before .loop .inv .1) (sym (spells-step name (c .before .before .before .loop .i) (c .before .before .loop-test .taken) (c .before .before .before .loop .good) (c .before .before .before .before .before .args .s .now)) ∙ c .before .before .before .loop .inv .2))
 
-shared-slice-read-result-10 : tie.Need-shared-slice-read-result-10
-shared-slice-read-result-10 c = search needs
-
-shared-slice-read-result-11 : tie.Need-shared-slice-read-result-11
-shared-slice-read-result-11 c = search needs
-
-shared-slice-read-result-12 : tie.Need-shared-slice-read-result-12
-shared-slice-read-result-12 c = search needs
-
-returns : tie.Need-returns
+returns : tie.Need-returns Inv-loop μ-loop
 unfolding named
-returns c = refl
+returns c =
+    let e : c .before .loop .i ≡ 12 = omega arith in
+    rw e at (c .before .loop .inv .2)
 
 pub named-spec : {M : Type 1} → statement M
 named-spec =
     tie.close
     (tie.spec
-    shared-slice-read-result
-    shared-slice-read-result-2
-    shared-slice-read-result-3
-    shared-slice-read-result-4
-    shared-slice-read-result-5
-    shared-slice-read-result-6
-    shared-slice-read-result-7
-    shared-slice-read-result-8
-    shared-slice-read-result-9
-    shared-slice-read-result-10
-    shared-slice-read-result-11
-    shared-slice-read-result-12
+    Inv-loop
+    μ-loop
+    loop-holds
+    shared-slice-read-good
+    element-copy-out-good
+    add-i
+    loop-less
+    loop-again
     returns)
