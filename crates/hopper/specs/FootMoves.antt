@@ -5,3 +5,6 @@ pub use Rattle.house.specs.MovesAnswers
 pub use Rattle.house.specs.MovesRefusals
 pub use Rattle.house.specs.MovesEntries
 pub use Rattle.house.specs.MovesIterators
+pub use Rattle.house.specs.WalksWalk
+pub use Rattle.house.specs.WalksReach
+pub use Rattle.house.specs.WalksAnswers

@@ -2,3 +2,4 @@ pub mod Numbers
 pub mod Legs
 pub mod FootMoves
 pub mod Steps
+pub mod Joints

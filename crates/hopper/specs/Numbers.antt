@@ -7,3 +7,10 @@ pub use Rattle.house.specs.NumbersFinite
 pub use Rattle.house.specs.NumbersPatterns
 pub use Rattle.house.specs.RootsHow
 pub use Rattle.house.specs.RootsRoot
+pub use Rattle.house.specs.SinesHow
+pub use Rattle.house.specs.SinesBands
+pub use Rattle.house.specs.SinesEntries
+pub use Rattle.house.specs.ArcsWedges
+pub use Rattle.house.specs.ArcsEntries
+pub use Rattle.house.specs.ArcsHow
+pub use Rattle.house.specs.ArcsDigits

@@ -5,10 +5,14 @@ pub mod numbers {
     pub use house::Answer;
     pub use house::Pattern;
     pub use house::absolute;
+    pub use house::arc_cosine;
+    pub use house::atan2;
+    pub use house::cosine;
     pub use house::from_pattern;
     pub use house::max;
     pub use house::min;
     pub use house::pattern_of;
+    pub use house::sine;
     pub use house::square_root;
 }
 
@@ -41,12 +45,15 @@ pub mod foot_moves {
     pub use house::NextPoint;
     pub use house::PointIter;
     pub use house::Towards;
+    pub use house::Walked;
     pub use house::feet_to_move_towards_iter;
     pub use house::longest_distance;
     pub use house::move_feet_towards;
     pub use house::move_towards;
     pub use house::move_vector_towards;
     pub use house::to_move_towards_iter;
+    pub use house::walk;
+    pub use house::walk_feet;
 }
 
 // Move commands, tripods, times; the three step iterators; the planner.
@@ -54,8 +61,31 @@ pub mod steps {
     pub use house::Commanded;
     pub use house::DEFAULT_STEP_DISTANCE;
     pub use house::DEFAULT_STEP_HEIGHT;
+    pub use house::EvenIter;
+    pub use house::EvenStepIterator;
+    pub use house::Lift;
     pub use house::MoveCommand;
+    pub use house::NextEven;
+    pub use house::NextStep;
+    pub use house::NextTimed;
     pub use house::ShouldMove;
+    pub use house::StepIter;
+    pub use house::StepIterator;
     pub use house::Time;
+    pub use house::TimedIter;
+    pub use house::TimedStepIterator;
     pub use house::Tripod;
+    pub use house::even_progress;
+    pub use house::step_with_relaxed_transformation;
+    pub use house::timed_progress;
+}
+
+// Inverse and forward kinematics.
+pub mod joints {
+    pub use house::Body;
+    pub use house::Configuration;
+    pub use house::LegConfiguration;
+    pub use house::Solution;
+    pub use house::calculate_fk;
+    pub use house::calculate_ik;
 }

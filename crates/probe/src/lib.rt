@@ -4,7 +4,9 @@
 use hopper::numbers::Answer;
 
 mod feet;
+mod joints_probes;
 mod moves_probes;
+mod steps_probes;
 
 // The refusal's number, or 0 with the value stored.
 pub(crate) fn stored(answer: Answer, out: &mut f32) -> u32 {
@@ -35,4 +37,24 @@ pub extern "C" fn probe_max(x: f32, y: f32, out: &mut f32) -> u32 {
 #[no_mangle]
 pub extern "C" fn probe_square_root(x: f32, out: &mut f32) -> u32 {
     stored(hopper::numbers::square_root(x), out)
+}
+
+#[no_mangle]
+pub extern "C" fn probe_sine(x: f32, out: &mut f32) -> u32 {
+    stored(hopper::numbers::sine(x), out)
+}
+
+#[no_mangle]
+pub extern "C" fn probe_cosine(x: f32, out: &mut f32) -> u32 {
+    stored(hopper::numbers::cosine(x), out)
+}
+
+#[no_mangle]
+pub extern "C" fn probe_arc_cosine(q: f32, out: &mut f32) -> u32 {
+    stored(hopper::numbers::arc_cosine(q), out)
+}
+
+#[no_mangle]
+pub extern "C" fn probe_atan2(y: f32, x: f32, out: &mut f32) -> u32 {
+    stored(hopper::numbers::atan2(y, x), out)
 }

@@ -5,6 +5,7 @@ use hopper::foot_moves::FeetStep;
 use hopper::foot_moves::FeetTowards;
 use hopper::foot_moves::MoveStep;
 use hopper::foot_moves::Towards;
+use hopper::foot_moves::Walked;
 ghost use Prim.Native.Nat.{_≤_};
 ghost use lib.ListN.{length};
 
@@ -78,4 +79,30 @@ pub extern "C" fn probe_longest_distance(s: &[f32], out: &mut f32) -> u32 {
         hopper::foot_moves::longest_distance(feet::feet(s, 0), feet::feet(s, 18)),
         out,
     )
+}
+
+// The count, or the refusal's number 2^32 times.
+fn counted(w: Walked) -> u64 {
+    match w {
+        Walked::Count(n) => n as u64,
+        Walked::Refused(n) => n as u64 * 0x1_0000_0000,
+    }
+}
+
+// start, target, max move: seven floats in.
+#[no_mangle]
+pub extern "C" fn probe_walk(s: &[f32]) -> u64 {
+    if s.len() < 7 {
+        return 99 * 0x1_0000_0000;
+    }
+    counted(hopper::foot_moves::walk(s[6], feet::point(s, 0), feet::point(s, 3)))
+}
+
+// start, target, max move: 37 floats in.
+#[no_mangle]
+pub extern "C" fn probe_walk_feet(s: &[f32]) -> u64 {
+    if s.len() < 37 {
+        return 99 * 0x1_0000_0000;
+    }
+    counted(hopper::foot_moves::walk_feet(s[36], feet::feet(s, 0), feet::feet(s, 18)))
 }

@@ -3,6 +3,7 @@
 mod answers;
 mod fields;
 mod input;
+mod joints_lines;
 mod legs_lines;
 mod moves_lines;
 mod names;

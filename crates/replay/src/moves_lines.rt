@@ -6,6 +6,7 @@ use hopper::foot_moves::FeetStep;
 use hopper::foot_moves::FeetTowards;
 use hopper::foot_moves::MoveStep;
 use hopper::foot_moves::Towards;
+use hopper::foot_moves::Walked;
 
 // `M` for moved, `A` for arrived, and the point.
 fn step(s: MoveStep) -> Out {
@@ -66,6 +67,36 @@ pub fn longest(s: &[u8]) -> Out {
     let b = fields::feet(s, a.next);
     if fields::done(s, b.next) {
         answers::number(hopper::foot_moves::longest_distance(a.value, b.value))
+    } else {
+        answers::unreadable()
+    }
+}
+
+// walk: max move, start, target. The count, then the target, as the last step reports it.
+pub fn point_walk(s: &[u8]) -> Out {
+    let m = fields::float(s, fields::first(s));
+    let start = fields::point(s, m.next);
+    let target = fields::point(s, start.next);
+    if fields::done(s, target.next) {
+        match hopper::foot_moves::walk(m.value, start.value, target.value) {
+            Walked::Count(n) => answers::point(answers::decimal(answers::ok(), n), target.value),
+            Walked::Refused(n) => answers::refused(n),
+        }
+    } else {
+        answers::unreadable()
+    }
+}
+
+// walk6: the same of six feet.
+pub fn feet_walk(s: &[u8]) -> Out {
+    let m = fields::float(s, fields::first(s));
+    let start = fields::feet(s, m.next);
+    let target = fields::feet(s, start.next);
+    if fields::done(s, target.next) {
+        match hopper::foot_moves::walk_feet(m.value, start.value, target.value) {
+            Walked::Count(n) => answers::feet(answers::decimal(answers::ok(), n), target.value),
+            Walked::Refused(n) => answers::refused(n),
+        }
     } else {
         answers::unreadable()
     }

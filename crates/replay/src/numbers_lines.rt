@@ -11,6 +11,9 @@ pub fn one(s: &[u8], name: u64) -> Out {
         match name {
             names::ABS => answers::number(hopper::numbers::absolute(x.value)),
             names::SQRT => answers::number(hopper::numbers::square_root(x.value)),
+            names::SIN => answers::number(hopper::numbers::sine(x.value)),
+            names::COS => answers::number(hopper::numbers::cosine(x.value)),
+            names::ACOS => answers::number(hopper::numbers::arc_cosine(x.value)),
             _ => answers::unreadable(),
         }
     } else {
@@ -26,6 +29,7 @@ pub fn two(s: &[u8], name: u64) -> Out {
         match name {
             names::MIN => answers::number(hopper::numbers::min(x.value, y.value)),
             names::MAX => answers::number(hopper::numbers::max(x.value, y.value)),
+            names::ATAN2 => answers::number(hopper::numbers::atan2(x.value, y.value)),
             _ => answers::unreadable(),
         }
     } else {

@@ -3,9 +3,18 @@ use crate::answers;
 use crate::answers::Out;
 use crate::fields;
 use crate::fields::Cursor;
+use crate::legs_lines;
+use hopper::legs::Feet;
+use hopper::steps::EvenStepIterator;
+use hopper::steps::Lift;
 use hopper::steps::MoveCommand;
+use hopper::steps::NextEven;
+use hopper::steps::NextStep;
+use hopper::steps::NextTimed;
 use hopper::steps::ShouldMove;
+use hopper::steps::StepIterator;
 use hopper::steps::Time;
+use hopper::steps::TimedStepIterator;
 use hopper::steps::Tripod;
 
 pub struct TimeAt {
@@ -121,6 +130,193 @@ pub fn constants(s: &[u8]) -> Out {
         let o = answers::bits(o, 0x4049_0fdb);
         let o = answers::bits(o, 0x3400_0000);
         answers::float(o, hopper::steps::DEFAULT_STEP_HEIGHT)
+    } else {
+        answers::unreadable()
+    }
+}
+
+// tprog and eprog: elapsed, period.
+pub fn timed_progress(s: &[u8]) -> Out {
+    let elapsed = time(s, fields::first(s));
+    let period = time(s, elapsed.next);
+    if fields::done(s, period.next) {
+        answers::number(hopper::steps::timed_progress(elapsed.value, period.value))
+    } else {
+        answers::unreadable()
+    }
+}
+
+pub fn even_progress(s: &[u8]) -> Out {
+    let elapsed = time(s, fields::first(s));
+    let period = time(s, elapsed.next);
+    if fields::done(s, period.next) {
+        answers::number(hopper::steps::even_progress(elapsed.value, period.value))
+    } else {
+        answers::unreadable()
+    }
+}
+
+// `S` and the new feet.
+fn made(f: Feet) -> Out {
+    answers::feet(answers::letter(answers::ok(), b'S'), f)
+}
+
+// `N` and last as it was.
+fn none(last: Feet) -> Out {
+    answers::feet(answers::letter(answers::ok(), b'N'), last)
+}
+
+fn next_step(state: StepIterator) -> Out {
+    match state.next() {
+        NextStep::Step(f, _) => made(f),
+        NextStep::NoStep => none(state.last),
+        NextStep::Refused(n) => answers::refused(n),
+    }
+}
+
+// step: start, last, target, max move, height, tripod, aggressive.
+pub fn step(s: &[u8]) -> Out {
+    let start = fields::feet(s, fields::first(s));
+    let last = fields::feet(s, start.next);
+    let target = fields::feet(s, last.next);
+    let m = fields::float(s, target.next);
+    let height = fields::float(s, m.next);
+    let t = tripod(s, height.next);
+    let aggressive = fields::bit(s, t.next);
+    if fields::done(s, aggressive.next) {
+        let from = start.value;
+        let now = last.value;
+        let to = target.value;
+        let lifted = t.value;
+        next_step(StepIterator {
+            start: from,
+            last: now,
+            target: to,
+            max_move: m.value,
+            step_height: height.value,
+            tripod: lifted,
+            aggressive_leg_lift: aggressive.value == 1,
+        })
+    } else {
+        answers::unreadable()
+    }
+}
+
+// What a step by time is asked for.
+struct Timing {
+    start: Feet,
+    last: Feet,
+    target: Feet,
+    lift: Lift,
+    elapsed: Time,
+    period: Time,
+    good: bool,
+}
+
+// start, last, target, height, descent, tripod, aggressive, elapsed, period.
+fn timing(s: &[u8]) -> Timing {
+    let start = fields::feet(s, fields::first(s));
+    let last = fields::feet(s, start.next);
+    let target = fields::feet(s, last.next);
+    let height = fields::float(s, target.next);
+    let descent = fields::float(s, height.next);
+    let t = tripod(s, descent.next);
+    let aggressive = fields::bit(s, t.next);
+    let elapsed = time(s, aggressive.next);
+    let period = time(s, elapsed.next);
+    let from = start.value;
+    let now = last.value;
+    let to = target.value;
+    let lifted = t.value;
+    let since = elapsed.value;
+    let whole = period.value;
+    Timing {
+        start: from,
+        last: now,
+        target: to,
+        lift: Lift {
+            step_height: height.value,
+            grounded_leg_descent: descent.value,
+            tripod: lifted,
+            aggressive_leg_lift: aggressive.value == 1,
+        },
+        elapsed: since,
+        period: whole,
+        good: fields::done(s, period.next),
+    }
+}
+
+fn next_timed(state: TimedStepIterator, elapsed: Time) -> Out {
+    match state.next(elapsed) {
+        NextTimed::Step(f, _) => made(f),
+        NextTimed::NoStep => none(state.last),
+        NextTimed::Refused(n) => answers::refused(n),
+    }
+}
+
+pub fn timed_step(s: &[u8]) -> Out {
+    let t = timing(s);
+    if t.good {
+        let start = t.start;
+        let last = t.last;
+        let target = t.target;
+        let period = t.period;
+        let lift = t.lift;
+        let state = TimedStepIterator {
+            start: start,
+            last: last,
+            target: target,
+            period: period,
+            lift: lift,
+        };
+        next_timed(state, t.elapsed)
+    } else {
+        answers::unreadable()
+    }
+}
+
+fn next_even(state: EvenStepIterator, elapsed: Time) -> Out {
+    match state.next(elapsed) {
+        NextEven::Step(f, _) => made(f),
+        NextEven::NoStep => none(state.last),
+        NextEven::Refused(n) => answers::refused(n),
+    }
+}
+
+pub fn even_step(s: &[u8]) -> Out {
+    let t = timing(s);
+    if t.good {
+        let start = t.start;
+        let last = t.last;
+        let target = t.target;
+        let period = t.period;
+        let lift = t.lift;
+        let state = EvenStepIterator {
+            start: start,
+            last: last,
+            target: target,
+            period: period,
+            lift: lift,
+        };
+        next_even(state, t.elapsed)
+    } else {
+        answers::unreadable()
+    }
+}
+
+// plan: start, relaxed, lifted tripod, command.
+pub fn plan(s: &[u8]) -> Out {
+    let start = fields::feet(s, fields::first(s));
+    let relaxed = fields::feet(s, start.next);
+    let t = tripod(s, relaxed.next);
+    let c = command(s, t.next);
+    if fields::done(s, c.next) {
+        legs_lines::planned(hopper::steps::step_with_relaxed_transformation(
+            start.value,
+            relaxed.value,
+            t.value,
+            c.value,
+        ))
     } else {
         answers::unreadable()
     }
