@@ -1,26 +1,183 @@
 // Times the proved library and the plain Rust reading side by side: same inputs, same run, one thread.
-// Prints a line an operation: nanoseconds of ours, of Rust's, the ratio.
+// Both sides have the same shape at the boundary: a call that is not inlined, numbers and rows of floats in, a stored
+// answer out, every number looked at. A line an operation: nanoseconds of ours, of Rust's, the ratio, the goal.
 mod reference;
 use reference::*;
 use std::hint::black_box;
 use std::time::Instant;
 
-extern "C" {
-    fn probe_square_root(x: f32, out: &mut f32) -> u32;
-    fn probe_move(s: *const f32, n: usize, out: *mut f32, m: usize) -> u32;
-    fn probe_move_feet(s: *const f32, n: usize, out: *mut f32, m: usize) -> u32;
-    fn probe_longest_distance(s: *const f32, n: usize, out: &mut f32) -> u32;
+mod ours {
+    extern "C" {
+        pub fn probe_square_root(x: f32, out: &mut f32) -> u32;
+        pub fn probe_sine(x: f32, out: &mut f32) -> u32;
+        pub fn probe_cosine(x: f32, out: &mut f32) -> u32;
+        pub fn probe_arc_cosine(x: f32, out: &mut f32) -> u32;
+        pub fn probe_atan2(y: f32, x: f32, out: &mut f32) -> u32;
+        pub fn probe_move(s: *const f32, n: usize, out: *mut f32, m: usize) -> u32;
+        pub fn probe_move_feet(s: *const f32, n: usize, out: *mut f32, m: usize) -> u32;
+        pub fn probe_longest_distance(s: *const f32, n: usize, out: &mut f32) -> u32;
+        pub fn probe_walk(s: *const f32, n: usize) -> u64;
+        pub fn probe_walk_feet(s: *const f32, n: usize) -> u64;
+        pub fn probe_step(s: *const f32, n: usize, t: u32, a: u32, out: *mut f32, m: usize) -> u32;
+        pub fn probe_timed_step(s: *const f32, n: usize, t: u32, a: u32, es: u64, en: u32, ps: u64, pn: u32, out: *mut f32, m: usize) -> u32;
+        pub fn probe_even_step(s: *const f32, n: usize, t: u32, a: u32, es: u64, en: u32, ps: u64, pn: u32, out: *mut f32, m: usize) -> u32;
+        pub fn probe_plan(s: *const f32, n: usize, t: u32, a: u32, seconds: u64, nanoseconds: u32, out: *mut f32, m: usize) -> u32;
+        pub fn probe_ik(s: *const f32, n: usize, out: *mut f32, m: usize) -> u32;
+        pub fn probe_fk(s: *const f32, n: usize, out: *mut f32, m: usize) -> u32;
+    }
 }
 
-// The Rust side has the same shape at the same boundary: a call that is not inlined, rows of floats, a stored answer.
-#[inline(never)]
-fn rust_one(f: fn(f32) -> Result<f32, u32>, x: f32, out: &mut f32) -> u32 {
-    match f(x) {
-        Ok(v) => {
-            *out = v;
-            0
+mod theirs {
+    use super::reference::*;
+
+    #[inline(always)]
+    fn stored(r: Result<f32, u32>, out: &mut f32) -> u32 {
+        match r {
+            Ok(v) => {
+                *out = v;
+                0
+            }
+            Err(n) => n,
         }
-        Err(n) => n,
+    }
+    #[inline(never)]
+    pub fn root(x: f32, out: &mut f32) -> u32 {
+        stored(square_root(x), out)
+    }
+    #[inline(never)]
+    pub fn sin(x: f32, out: &mut f32) -> u32 {
+        stored(sine(x), out)
+    }
+    #[inline(never)]
+    pub fn cos(x: f32, out: &mut f32) -> u32 {
+        stored(cosine(x), out)
+    }
+    #[inline(never)]
+    pub fn acos(x: f32, out: &mut f32) -> u32 {
+        stored(arc_cosine(x), out)
+    }
+    #[inline(never)]
+    pub fn angle(y: f32, x: f32, out: &mut f32) -> u32 {
+        stored(atan2(y, x), out)
+    }
+    #[inline(always)]
+    pub fn point(s: &[f32], at: usize) -> Point {
+        Point { x: s[at], y: s[at + 1], z: s[at + 2] }
+    }
+    #[inline(always)]
+    pub fn row(s: &[f32], at: usize) -> Row {
+        std::array::from_fn(|l| point(s, at + 3 * l))
+    }
+    #[inline(always)]
+    fn store(r: &Row, out: &mut [f32]) {
+        for l in 0..6 {
+            out[3 * l] = r[l].x;
+            out[3 * l + 1] = r[l].y;
+            out[3 * l + 2] = r[l].z;
+        }
+    }
+    #[inline(always)]
+    fn marked(r: Result<(Row, bool), u32>, out: &mut [f32]) -> u32 {
+        match r {
+            Ok((r, moved)) => {
+                store(&r, out);
+                256 * moved as u32
+            }
+            Err(n) => n,
+        }
+    }
+    #[inline(never)]
+    pub fn one_move(s: &[f32], out: &mut [f32]) -> u32 {
+        match move_towards(&point(s, 0), &point(s, 3), s[6]) {
+            Ok((p, m)) => {
+                out[0] = p.x;
+                out[1] = p.y;
+                out[2] = p.z;
+                256 * m as u32
+            }
+            Err(n) => n,
+        }
+    }
+    #[inline(never)]
+    pub fn six_moves(s: &[f32], out: &mut [f32]) -> u32 {
+        marked(move_feet_towards(&row(s, 0), &row(s, 18), s[36]), out)
+    }
+    #[inline(never)]
+    pub fn longest(s: &[f32], out: &mut f32) -> u32 {
+        stored(longest_distance(&row(s, 0), &row(s, 18)), out)
+    }
+    #[inline(never)]
+    pub fn one_walk(s: &[f32]) -> u64 {
+        walk(s[6], &point(s, 0), &point(s, 3)).map_or_else(|n| (n as u64) << 32, |(n, _)| n as u64)
+    }
+    #[inline(never)]
+    pub fn six_walks(s: &[f32]) -> u64 {
+        walk_feet(s[36], &row(s, 0), &row(s, 18)).map_or_else(|n| (n as u64) << 32, |(n, _)| n as u64)
+    }
+    fn tripod(t: u32) -> u32 {
+        if t == 0 { LRL } else { RLR }
+    }
+    #[inline(never)]
+    pub fn by_distance(s: &[f32], t: u32, a: u32, out: &mut [f32]) -> u32 {
+        marked(step(&row(s, 0), &row(s, 18), &row(s, 36), s[54], s[55], tripod(t), a != 0), out)
+    }
+    #[inline(never)]
+    pub fn timed(s: &[f32], t: u32, a: u32, e: Time, p: Time, out: &mut [f32]) -> u32 {
+        let lift = Lift { height: s[54], descent: s[55], lifted: tripod(t), aggressive: a != 0 };
+        marked(timed_step(&row(s, 0), &row(s, 18), &row(s, 36), &lift, &e, &p), out)
+    }
+    #[inline(never)]
+    pub fn even(s: &[f32], t: u32, a: u32, e: Time, p: Time, out: &mut [f32]) -> u32 {
+        let lift = Lift { height: s[54], descent: s[55], lifted: tripod(t), aggressive: a != 0 };
+        marked(even_step(&row(s, 0), &row(s, 18), &row(s, 36), &lift, &e, &p), out)
+    }
+    #[inline(never)]
+    pub fn planned(s: &[f32], t: u32, a: u32, time: Time, out: &mut [f32]) -> u32 {
+        let c = Command { x: s[36], y: s[37], rotation: s[38], step_time: time, height: s[39], aggressive: a != 0 };
+        match plan(&row(s, 0), &row(s, 18), tripod(t), &c) {
+            Ok(r) => {
+                store(&r, out);
+                0
+            }
+            Err(n) => n,
+        }
+    }
+    #[inline(always)]
+    fn config(s: &[f32]) -> Config {
+        Config {
+            coxa_length: s[18],
+            femur_length: s[19],
+            tibia_length: s[20],
+            femur_offset: s[21],
+            tibia_offset: s[22],
+            legs: std::array::from_fn(|l| LegConfig {
+                position: point(s, 23 + 6 * l),
+                angle_offset: s[26 + 6 * l],
+                femur_correction: s[27 + 6 * l],
+                tibia_correction: s[28 + 6 * l],
+            }),
+        }
+    }
+    #[inline(never)]
+    pub fn ik(s: &[f32], out: &mut [f32]) -> u32 {
+        match inverse(&row(s, 0), &config(s)) {
+            Ok(r) => {
+                store(&r.map(|a| Point { x: a.coxa, y: a.femur, z: a.tibia }), out);
+                0
+            }
+            Err(n) => n,
+        }
+    }
+    #[inline(never)]
+    pub fn fk(s: &[f32], out: &mut [f32]) -> u32 {
+        let joints = row(s, 0).map(|p| Angles { coxa: p.x, femur: p.y, tibia: p.z });
+        match forward(&joints, &config(s)) {
+            Ok(r) => {
+                store(&r, out);
+                0
+            }
+            Err(n) => n,
+        }
     }
 }
 
@@ -33,115 +190,206 @@ impl Random {
         self.0 ^= self.0 << 17;
         self.0
     }
-    /// From lo to hi.
     fn between(&mut self, lo: f32, hi: f32) -> f32 {
         lo + (hi - lo) * ((self.next() >> 40) as f32 / (1u64 << 24) as f32)
+    }
+    fn floats(&mut self, n: usize, lo: f32, hi: f32) -> Vec<f32> {
+        (0..n).map(|_| self.between(lo, hi)).collect()
     }
 }
 
 const INPUTS: usize = 1024;
 
-/// The best of several rounds over all inputs, in nanoseconds a call.
-fn best(mut call: impl FnMut(usize)) -> f64 {
-    let mut least = f64::MAX;
-    for _ in 0..60 {
+/// The best of several rounds over all inputs, ours and theirs by turns, in nanoseconds a call.
+fn both(name: &str, goal: f64, each: f64, mut ours: impl FnMut(usize), mut theirs: impl FnMut(usize)) {
+    let rounds = std::env::args().nth(1).and_then(|s| s.parse().ok()).unwrap_or(60);
+    let (mut a, mut b) = (f64::MAX, f64::MAX);
+    for _ in 0..rounds {
         let t = Instant::now();
         for i in 0..INPUTS {
-            call(i);
+            ours(i);
         }
-        least = least.min(t.elapsed().as_nanos() as f64 / INPUTS as f64);
+        a = a.min(t.elapsed().as_nanos() as f64 / INPUTS as f64);
+        let t = Instant::now();
+        for i in 0..INPUTS {
+            theirs(i);
+        }
+        b = b.min(t.elapsed().as_nanos() as f64 / INPUTS as f64);
     }
-    least
-}
-
-fn line(name: &str, ours: f64, rusts: f64) {
-    println!("{name:24} {ours:9.2} {rusts:9.2} {:7.2}", ours / rusts);
-}
-
-fn points(s: &[f32], at: usize) -> Point {
-    Point { x: s[at], y: s[at + 1], z: s[at + 2] }
-}
-
-fn rows(s: &[f32], at: usize) -> Row {
-    std::array::from_fn(|l| points(s, at + 3 * l))
+    let ratio = a / b;
+    println!("{name:26} {:9.2} {:9.2} {ratio:7.2} {goal:6.1}{}", a / each, b / each, if ratio <= goal { "" } else { "  missed" });
 }
 
 fn main() {
     let mut r = Random(0x9e37_79b9_7f4a_7c15);
-    println!("{:24} {:>9} {:>9} {:>7}", "operation", "ours ns", "Rust ns", "ratio");
-    let xs: Vec<f32> = (0..INPUTS).map(|_| r.between(0.0, 100.0)).collect();
-    let mut out = 0.0f32;
-    // chained: each argument depends on the answer before it
-    let mut carry = 0.0f32;
-    let ours = best(|i| unsafe {
-        probe_square_root(xs[i] + carry, &mut out);
-        carry = out * 0.0;
-    });
-    let rusts = best(|i| {
-        rust_one(square_root, xs[i] + carry, &mut out);
-        carry = out * 0.0;
-    });
-    line("square root, chained", ours, rusts);
+    println!("{:26} {:>9} {:>9} {:>7} {:>6}", "operation", "ours ns", "Rust ns", "ratio", "goal");
+    let (mut a, mut b) = (0.0f32, 0.0f32);
+    let mut row = [0.0f32; 18];
+    let mut other = [0.0f32; 18];
+    let xs = r.floats(INPUTS, 0.0, 100.0);
+    // chained: each argument waits for the answer before it
+    let (mut u, mut v) = (0.0f32, 0.0f32);
+    both(
+        "square root, chained",
+        2.9,
+        1.0,
+        |i| unsafe {
+            ours::probe_square_root(xs[i] + u, &mut a);
+            u = a * 0.0;
+        },
+        |i| {
+            theirs::root(xs[i] + v, &mut b);
+            v = b * 0.0;
+        },
+    );
+    both("square root", 2.9, 1.0, |i| unsafe { drop(black_box(ours::probe_square_root(xs[i], &mut a))) }, |i| drop(black_box(theirs::root(xs[i], &mut b))));
+    let xs = r.floats(INPUTS, -8.0, 8.0);
+    both("sine", 1.0, 1.0, |i| unsafe { drop(black_box(ours::probe_sine(xs[i], &mut a))) }, |i| drop(black_box(theirs::sin(xs[i], &mut b))));
+    both("cosine", 1.0, 1.0, |i| unsafe { drop(black_box(ours::probe_cosine(xs[i], &mut a))) }, |i| drop(black_box(theirs::cos(xs[i], &mut b))));
+    let qs = r.floats(INPUTS, -1.0, 1.0);
+    both("arc cosine", 1.1, 1.0, |i| unsafe { drop(black_box(ours::probe_arc_cosine(qs[i], &mut a))) }, |i| drop(black_box(theirs::acos(qs[i], &mut b))));
+    let ys = r.floats(INPUTS, -8.0, 8.0);
+    both("atan2", 1.0, 1.0, |i| unsafe { drop(black_box(ours::probe_atan2(ys[i], xs[i], &mut a))) }, |i| drop(black_box(theirs::angle(ys[i], xs[i], &mut b))));
+
     let feet: Vec<Vec<f32>> = (0..INPUTS)
         .map(|_| {
-            let mut s: Vec<f32> = (0..36).map(|_| r.between(-0.4, 0.4)).collect();
+            let mut s = r.floats(36, -0.4, 0.4);
             s.push(r.between(0.001, 0.1));
             s
         })
         .collect();
-    let mut row = [0.0f32; 18];
-    let ours = best(|i| unsafe {
-        let s = &feet[i][30..37];
-        black_box(probe_move(s.as_ptr(), 7, row.as_mut_ptr(), 18));
-    });
-    #[inline(never)]
-    fn rust_move(s: &[f32], out: &mut [f32]) -> u32 {
-        match move_towards(&points(s, 0), &points(s, 3), s[6]) {
-            Ok((p, m)) => {
-                out[..3].copy_from_slice(&[p.x, p.y, p.z]);
-                256 * m as u32
-            }
-            Err(n) => n,
-        }
-    }
-    let rusts = best(|i| {
-        black_box(rust_move(&feet[i][30..37], &mut row));
-    });
-    line("one move", ours, rusts);
-    let ours = best(|i| unsafe {
-        black_box(probe_move_feet(feet[i].as_ptr(), 37, row.as_mut_ptr(), 18));
-    });
-    #[inline(never)]
-    fn rust_feet(s: &[f32], out: &mut [f32]) -> u32 {
-        match move_feet_towards(&rows(s, 0), &rows(s, 18), s[36]) {
-            Ok((r, m)) => {
-                for l in 0..6 {
-                    out[3 * l..3 * l + 3].copy_from_slice(&[r[l].x, r[l].y, r[l].z]);
+    both(
+        "one move",
+        1.3,
+        1.0,
+        |i| unsafe { drop(black_box(ours::probe_move(feet[i][30..].as_ptr(), 7, row.as_mut_ptr(), 18))) },
+        |i| drop(black_box(theirs::one_move(&feet[i][30..], &mut other))),
+    );
+    both(
+        "six moves",
+        1.3,
+        1.0,
+        |i| unsafe { drop(black_box(ours::probe_move_feet(feet[i].as_ptr(), 37, row.as_mut_ptr(), 18))) },
+        |i| drop(black_box(theirs::six_moves(&feet[i], &mut other))),
+    );
+    both(
+        "longest distance",
+        1.3,
+        1.0,
+        |i| unsafe { drop(black_box(ours::probe_longest_distance(feet[i].as_ptr(), 36, &mut a))) },
+        |i| drop(black_box(theirs::longest(&feet[i], &mut b))),
+    );
+    let walks: Vec<Vec<f32>> = (0..INPUTS)
+        .map(|_| {
+            let mut s = r.floats(36, -0.4, 0.4);
+            s.push(0.01);
+            s
+        })
+        .collect();
+    let steps: u64 = walks.iter().map(|s| theirs::one_walk(&s[30..])).sum();
+    both(
+        "a walk, each step",
+        1.3,
+        steps as f64 / INPUTS as f64,
+        |i| unsafe { drop(black_box(ours::probe_walk(walks[i][30..].as_ptr(), 7))) },
+        |i| drop(black_box(theirs::one_walk(&walks[i][30..]))),
+    );
+    let steps: u64 = walks.iter().map(|s| theirs::six_walks(s)).sum();
+    both(
+        "six walks, each step",
+        1.3,
+        steps as f64 / INPUTS as f64,
+        |i| unsafe { drop(black_box(ours::probe_walk_feet(walks[i].as_ptr(), 37))) },
+        |i| drop(black_box(theirs::six_walks(&walks[i]))),
+    );
+    let states: Vec<Vec<f32>> = (0..INPUTS)
+        .map(|_| {
+            let mut s = r.floats(54, -0.4, 0.4);
+            s.push(r.between(0.001, 0.02));
+            s.push(r.between(0.01, 0.05));
+            s
+        })
+        .collect();
+    both(
+        "step by distance",
+        1.3,
+        1.0,
+        |i| unsafe { drop(black_box(ours::probe_step(states[i].as_ptr(), 56, i as u32 & 1, 0, row.as_mut_ptr(), 18))) },
+        |i| drop(black_box(theirs::by_distance(&states[i], i as u32 & 1, 0, &mut other))),
+    );
+    let time = |i: usize| Time { seconds: 0, nanoseconds: (i as u32 * 350_000) % 350_000_000 };
+    let period = Time { seconds: 0, nanoseconds: 600_000_000 };
+    both(
+        "timed step",
+        1.3,
+        1.0,
+        |i| unsafe {
+            let e = time(i);
+            drop(black_box(ours::probe_timed_step(states[i].as_ptr(), 56, i as u32 & 1, 0, e.seconds, e.nanoseconds, 0, period.nanoseconds, row.as_mut_ptr(), 18)))
+        },
+        |i| drop(black_box(theirs::timed(&states[i], i as u32 & 1, 0, time(i), period, &mut other))),
+    );
+    both(
+        "even step",
+        1.3,
+        1.0,
+        |i| unsafe {
+            let e = time(i);
+            drop(black_box(ours::probe_even_step(states[i].as_ptr(), 56, i as u32 & 1, 0, e.seconds, e.nanoseconds, 0, period.nanoseconds, row.as_mut_ptr(), 18)))
+        },
+        |i| drop(black_box(theirs::even(&states[i], i as u32 & 1, 0, time(i), period, &mut other))),
+    );
+    // a stance: feet around the body, the relaxed ones near them
+    let around = [(0.2, 0.16), (0.2, -0.16), (0.0, 0.2), (0.0, -0.2), (-0.2, 0.16), (-0.2, -0.16)];
+    let plans: Vec<Vec<f32>> = (0..INPUTS)
+        .map(|_| {
+            let mut s = vec![];
+            for spread in [0.03, 0.005] {
+                for (x, y) in around {
+                    s.push(x + r.between(-spread, spread));
+                    s.push(y + r.between(-spread, spread));
+                    s.push(-0.12);
                 }
-                256 * m as u32
             }
-            Err(n) => n,
-        }
+            s.push(r.between(-0.05, 0.05));
+            s.push(r.between(-0.05, 0.05));
+            s.push(r.between(-0.5, 0.5));
+            s.push(0.03);
+            s
+        })
+        .collect();
+    both(
+        "planner",
+        1.0,
+        1.0,
+        |i| unsafe { drop(black_box(ours::probe_plan(plans[i].as_ptr(), 40, i as u32 & 1, 0, 0, 600_000_000, row.as_mut_ptr(), 18))) },
+        |i| drop(black_box(theirs::planned(&plans[i], i as u32 & 1, 0, period, &mut other))),
+    );
+    let mut config = vec![0.052, 0.066, 0.135, 0.6, -0.4];
+    for (x, y) in around {
+        config.extend([x * 0.4, y * 0.4, 0.0, -(y as f32).atan2(x), 2.6, 2.1]);
     }
-    let rusts = best(|i| {
-        black_box(rust_feet(&feet[i], &mut row));
-    });
-    line("six moves", ours, rusts);
-    let ours = best(|i| unsafe {
-        black_box(probe_longest_distance(feet[i].as_ptr(), 36, &mut out));
-    });
-    #[inline(never)]
-    fn rust_longest(s: &[f32], out: &mut f32) -> u32 {
-        match longest_distance(&rows(s, 0), &rows(s, 18)) {
-            Ok(v) => {
-                *out = v;
-                0
-            }
-            Err(n) => n,
-        }
-    }
-    let rusts = best(|i| {
-        black_box(rust_longest(&feet[i], &mut out));
-    });
-    line("longest distance", ours, rusts);
+    let poses: Vec<Vec<f32>> = plans.iter().map(|s| s[..18].iter().chain(config.iter()).copied().collect()).collect();
+    both(
+        "inverse kinematics",
+        1.0,
+        1.0,
+        |i| unsafe { drop(black_box(ours::probe_ik(poses[i].as_ptr(), 59, row.as_mut_ptr(), 18))) },
+        |i| drop(black_box(theirs::ik(&poses[i], &mut other))),
+    );
+    let joints: Vec<Vec<f32>> = poses
+        .iter()
+        .map(|s| {
+            let mut j = [0.0f32; 18];
+            assert_eq!(theirs::ik(s, &mut j), 0);
+            j.iter().chain(config.iter()).copied().collect()
+        })
+        .collect();
+    both(
+        "forward kinematics",
+        1.0,
+        1.0,
+        |i| unsafe { drop(black_box(ours::probe_fk(joints[i].as_ptr(), 59, row.as_mut_ptr(), 18))) },
+        |i| drop(black_box(theirs::fk(&joints[i], &mut other))),
+    );
 }

@@ -1,0 +1,132 @@
+#!/usr/bin/env python3
+"""judge.py LINES REFERENCE ANSWERS
+Holds answers to operation lines (docs/OPERATIONS.md) against reference answers, each as document 01 says: to the bit,
+or within its bound. Prints what differs, the largest distances, and last how many lines were judged and how many failed."""
+import math
+import struct
+import sys
+
+LRL = (0, 3, 4)  # left front, right middle, left rear, as places of a row
+RLR = (1, 2, 5)
+
+
+def number(bits):
+    return struct.unpack(">f", bytes.fromhex(bits))[0]
+
+
+def floats(fields):
+    return [number(f) for f in fields]
+
+
+class Judge:
+    def __init__(self):
+        self.worst = {}
+
+    def near(self, what, a, b, bound):
+        d = abs(a - b)
+        if not d <= bound:
+            return f"{what}: {a!r} and {b!r} are {d!r} apart, {bound!r} allowed"
+        if d > self.worst.get(what, 0.0):
+            self.worst[what] = d
+        return None
+
+    def row(self, what, got, want, bound):
+        for a, b in zip(floats(got), floats(want)):
+            bad = self.near(what, a, b, bound)
+            if bad:
+                return bad
+        return None
+
+    def step(self, name, got, want):
+        if got[:2] != want[:2] or len(got) != 20:
+            return "another kind of answer"
+        if got[1] == "N":
+            return None if got == want else "last is not as it was"
+        for k in range(18):
+            if k % 3 != 2 and got[2 + k] != want[2 + k]:
+                return "x or y differs"
+        return self.row(name + " z", got[4::3], want[4::3], 2.0 ** -19)
+
+    def plan(self, line, got, want):
+        if len(got) != 19 or got[0] != "ok":
+            return "another kind of answer"
+        if got[3::3] != want[3::3]:
+            return "a planned z differs"
+        given = line.split()
+        start, relaxed = floats(given[1:19]), floats(given[19:37])
+        lifted, standing = (LRL, RLR) if given[37] == "0" else (RLR, LRL)
+        legs = lifted + standing if turns_well(start, relaxed, standing) else lifted
+        for l in legs:
+            bad = self.row("planned feet", got[1 + 3 * l:3 + 3 * l], want[1 + 3 * l:3 + 3 * l], 2.0 ** -12)
+            if bad:
+                return bad
+        return None
+
+    def coxa_near_limit(self, line):
+        f = floats(line.split()[1:])
+        feet, legs = f[:18], f[23:]
+        for l in range(6):
+            x, y = feet[3 * l] - legs[6 * l], feet[3 * l + 1] - legs[6 * l + 1]
+            angle = math.atan2(y, x) + legs[6 * l + 3]
+            if min(abs(angle - math.pi / 2), abs(angle + math.pi / 2)) <= 2.0 ** -16 + 1e-6:
+                return True
+        return False
+
+    def line(self, line, got, want):
+        if got == want:
+            return None
+        name, g, w = line.split(" ")[0], got.split(), want.split()
+        if name == "ik" and "R 6" in (got, want) and self.coxa_near_limit(line):
+            return None
+        if not w or w[0] != "ok" or not g or g[0] != "ok":
+            return "another refusal"
+        if name in ("sin", "cos"):
+            return self.near(name, number(g[1]), number(w[1]), 2.0 ** -21 + 2.0 ** -23)
+        if name in ("acos", "atan2"):
+            same = math.copysign(1.0, number(g[1])) == math.copysign(1.0, number(w[1]))
+            return self.near(name, number(g[1]), number(w[1]), 2.0 ** -18 + 2.0 ** -22) if same else "the sign differs"
+        if name in ("step", "tstep", "estep"):
+            return self.step(name, g, w)
+        if name == "plan":
+            return self.plan(line, g, w)
+        if name == "ik":
+            return self.row("joints", g[1:], w[1:], 2.0 ** -16)
+        if name == "fk":
+            return self.row("forward kinematics", g[1:], w[1:], 2.0 ** -17)
+        return "not equal to the bit"
+
+
+def turns_well(start, relaxed, standing):
+    """Both vectors of each turned pair are at least 2^-10 long, and their angle is at least 2^-12 short of a half turn."""
+    cx = sum(start[3 * l] for l in standing) / 3
+    cy = sum(start[3 * l + 1] for l in standing) / 3
+    for l in standing:
+        ax, ay = start[3 * l] - cx, start[3 * l + 1] - cy
+        bx, by = relaxed[3 * l], relaxed[3 * l + 1]
+        if min(math.hypot(ax, ay), math.hypot(bx, by)) < 2.0 ** -10:
+            return False
+        if abs(math.atan2(ax * by - ay * bx, ax * bx + ay * by)) > math.pi - 2.0 ** -12:
+            return False
+    return True
+
+
+def main():
+    if len(sys.argv) != 4:
+        sys.exit(__doc__)
+    lines, reference, answers = [open(p, encoding="ascii").read().splitlines() for p in sys.argv[1:]]
+    judge, failed = Judge(), 0
+    if not len(lines) == len(reference) == len(answers):
+        sys.exit(f"{len(lines)} lines, {len(reference)} reference answers, {len(answers)} answers")
+    for n, (line, want, got) in enumerate(zip(lines, reference, answers), 1):
+        bad = judge.line(line, got, want)
+        if bad:
+            failed += 1
+            if failed <= 20:
+                print(f"line {n}: {bad}\n  {line[:120]}\n  want {want[:120]}\n  got  {got[:120]}")
+    for what, d in sorted(judge.worst.items()):
+        print(f"{what:20} largest distance 2^{math.log2(d):.2f}")
+    print(f"{len(lines)} lines judged, {failed} failed")
+    sys.exit(1 if failed else 0)
+
+
+main()
