@@ -1,16 +1,64 @@
 #!/usr/bin/env python3
-"""sine_table.py > crates/sines/src/table.rt
-Writes the tables of the room `sines`: entry j is the whole number nearest to 2^30 (1 + S(j/8)), and of C, for j from 0
-to 128, by document 01's sums in exact fractions. The check holds each entry to that rule (proofs/Entries.antt)."""
+"""sine_table.py
+Writes the table of the room `sines` and the proof that holds it to its rule:
+    crates/sines/src/table.rt                      document 01's sums S and C at whole eighths, in exact fractions
+    crates/sines/proofs/table/entry/Proof.antt     a line for each arm, by one law (proofs/Entries.antt)
+The table is a `match`, which compiles to a load from constant memory; an array constant would be written to the stack
+at every call."""
+import os
 from fractions import Fraction
 from math import factorial, floor
 
-HEAD = """// Sine and cosine at whole eighths: 2^30 (1 + S(j/8)) and 2^30 (1 + C(j/8)) for j from 0 to 128, each
-// to the nearest whole number. Made by tools/sine_table.py; the contracts below hold every entry to
-// that rule.
+PLACES = 129
+HOME = os.path.join(os.path.dirname(os.path.abspath(__file__)), "..", "crates", "sines")
+
+CODE = """// Sine and cosine at whole eighths: 2^30 (1 + S(j/8)) in the high 32 bits and 2^30 (1 + C(j/8)) in the
+// low ones, for j from 0 to 128, each to the nearest whole number. Made by tools/sine_table.py; the
+// contract of `entry` holds every arm to that rule.
 ghost use mathlib.Core.Path.{_≡_};
 ghost use Prim.Native.Nat.{_<_, _≤_};
-ghost use Rattle.sines.specs.How.{sineEntry, cosineEntry};
+ghost use Rattle.sines.specs.How.{pairEntry, sineEntry, cosineEntry};
+
+// A sine and a cosine in units of 2^-30, each plus 1.
+pub struct Pair {
+    pub sine: u64,
+    pub cosine: u64,
+}
+
+// Sine and cosine of j eighths.
+pub fn pair_at(j: u64) -> Pair
+    requires { ⌜ j < 129 ⌝ }
+    ensures { λ r. ⌜ (r .sine ≡ sineEntry j) × (r .cosine ≡ cosineEntry j) × (r .sine ≤ 2147483648) × (r .cosine ≤ 2147483648) ⌝ }
+{
+    let both = entry(j);
+    Pair {
+        sine: both / 0x1_0000_0000,
+        cosine: both %% 0x1_0000_0000,
+    }
+}
+
+// Both in one number.
+fn entry(j: u64) -> u64
+    requires { ⌜ j < 129 ⌝ }
+    ensures { λ r. ⌜ r ≡ pairEntry j ⌝ }
+{
+    match j {
+%s        _ => 0,
+    }
+}
+"""
+
+PROOF = """-- `sines::table::entry` meets its contract: each arm holds what the rule gives at its place, and no place is left. Made by tools/sine_table.py.
+use Rattle.series.proofs.Tables.{covered}
+use Rattle.sines.proofs.Entries.{right, arm}
+use Rattle.sines.proofs.table.entry.Statement.{statement}
+use Rattle.sines.proofs.table.entry.Tie as tie
+
+%sreturns-130 : tie.Need-returns-130
+returns-130 c = absurd (covered 129 (c .before .args .j) (c .match .rest) (c .before .pre))
+
+pub entry-spec : {M : Type 1} → statement M
+entry-spec = tie.close (tie.spec %s)
 """
 
 
@@ -22,23 +70,18 @@ def entry(j, first):
     return floor(2**30 * (1 + series(Fraction(j, 8), first)) + Fraction(1, 2))
 
 
-def table(name, first):
-    rows = "".join("    %d,\n" % entry(j, first) for j in range(129))
-    return "const %s: [u32; 129] = [\n%s];\n" % (name, rows)
+def need(k):
+    return "returns" if k == 0 else "returns-%d" % (k + 1)
 
 
-def reader(name, table, rule, what):
-    return (
-        "// %s at j eighths, in units of 2^-30, plus 1.\n"
-        "pub fn %s(j: usize) -> u64\n"
-        "    requires { ⌜ j < 129 ⌝ }\n"
-        "    ensures { λ r. ⌜ (r ≡ %s j) × (r ≤ 2147483648) ⌝ }\n"
-        "{\n    %s[j] as u64\n}\n" % (what, name, rule, table)
-    )
+def write(path, text):
+    path = os.path.join(HOME, path)
+    os.makedirs(os.path.dirname(path), exist_ok=True)
+    with open(path, "w") as f:
+        f.write(text)
 
 
-print(HEAD)
-print(table("SINES", 1))
-print(table("COSINES", 0))
-print(reader("sine_at", "SINES", "sineEntry", "Sine"))
-print(reader("cosine_at", "COSINES", "cosineEntry", "Cosine"), end="")
+arms = "".join("        %d => 0x%08x_%08x,\n" % (j, entry(j, 1), entry(j, 0)) for j in range(PLACES))
+write("src/table.rt", CODE % arms)
+laws = "".join("%s : tie.Need-%s\nunfolding right\n%s c = arm %d tt (c .match .keys%d)\n\n" % (need(k), need(k), need(k), k, k + 1) for k in range(PLACES))
+write("proofs/table/entry/Proof.antt", PROOF % (laws, " ".join(need(k) for k in range(PLACES + 1))))

@@ -16,7 +16,7 @@ use Rattle.series.proofs.Polynomials.{eval, spread, ev-spread}
 use Rattle.series.proofs.NearestTables.{nearest, nearest-le, sineTable, cosineTable, sine-nearest, cosine-nearest}
 use Rattle.series.proofs.Scale.{ev-widen}
 use Rattle.series.proofs.Addition.{fsp, fsm, fcp, fcm, FD}
-use Rattle.sines.specs.How.{sineEntry, cosineEntry}
+use Rattle.sines.specs.How.{sineEntry, cosineEntry, pairEntry}
 
 -- f i, f (i + 1), .., so many
 unfoldable tabled : (ℕ → ℕ) → ℕ → ℕ → List ℕ
@@ -134,19 +134,11 @@ module _ (j : ℕ) (h : j < 129) where
       (nearest-le (spread 8 cosP) (spread 8 cosM) (denominator 8) 1073741824 1073741824 1 j (getD cosines j 0)
       (at (nearest (spread 8 cosP) (spread 8 cosM) (denominator 8) 1073741824 1073741824 1) cosines cosines-pass j (subst (λ (n : ℕ). j < n) (sym many-cosines) h))))
 
--- ---- a table in the code, held to the rule entry by entry
-unfoldable pub sine-right : ℕ → ℕ → Bool
-unfolding sineEntry
-sine-right k e = eqb e (sineEntry k)
+-- ---- the table in the code, held to the rule arm by arm
+unfoldable pub right : ℕ → ℕ → Type 0
+unfolding pairEntry sineEntry cosineEntry ev pw sinP sinM cosP cosM denominator factorial
+right e k = T (eqb e (pairEntry k))
 
-unfoldable pub cosine-right : ℕ → ℕ → Bool
-unfolding cosineEntry
-cosine-right k e = eqb e (cosineEntry k)
-
-pub table-sine : (xs : List ℕ) → T (every sine-right 0 xs) → (k : ℕ) → k < length xs → getD xs k 0 ≡ sineEntry k
-unfolding sine-right
-table-sine xs t k h = eqb→eq (getD xs k 0) (sineEntry k) (at sine-right xs t k h)
-
-pub table-cosine : (xs : List ℕ) → T (every cosine-right 0 xs) → (k : ℕ) → k < length xs → getD xs k 0 ≡ cosineEntry k
-unfolding cosine-right
-table-cosine xs t k h = eqb→eq (getD xs k 0) (cosineEntry k) (at cosine-right xs t k h)
+pub arm : (k : ℕ) {e j : ℕ} → right e k → j ≡ k → e ≡ pairEntry j
+unfolding right
+arm k {e} {j} t h = subst (λ (i : ℕ). e ≡ pairEntry i) (sym h) (eqb→eq e (pairEntry k) t)

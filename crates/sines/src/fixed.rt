@@ -66,15 +66,10 @@ pub fn sine(x: u64) -> u64
     requires { ⌜ x ≤ 549755813888 ⌝ }
     ensures { λ w. ⌜ w ≡ fixedSine x ⌝ }
 {
-    let j = (x / 0x1_0000_0000) as usize;
+    let p = table::pair_at(x / 0x1_0000_0000);
     let r = x % 0x1_0000_0000;
     let q = square_of(r);
-    sine_sum(
-        table::sine_at(j),
-        table::cosine_at(j),
-        even_part(q),
-        odd_part(r, q),
-    )
+    sine_sum(p.sine, p.cosine, even_part(q), odd_part(r, q))
 }
 
 // Cosine, likewise.
@@ -82,15 +77,10 @@ pub fn cosine(x: u64) -> u64
     requires { ⌜ x ≤ 549755813888 ⌝ }
     ensures { λ w. ⌜ w ≡ fixedCosine x ⌝ }
 {
-    let j = (x / 0x1_0000_0000) as usize;
+    let p = table::pair_at(x / 0x1_0000_0000);
     let r = x % 0x1_0000_0000;
     let q = square_of(r);
-    cosine_sum(
-        table::sine_at(j),
-        table::cosine_at(j),
-        even_part(q),
-        odd_part(r, q),
-    )
+    cosine_sum(p.sine, p.cosine, even_part(q), odd_part(r, q))
 }
 
 // The f32 of a number in units of 2^-24, plus 5 * 2^22.
