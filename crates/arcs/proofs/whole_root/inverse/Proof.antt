@@ -9,9 +9,6 @@ use Rattle.arcs.proofs.whole_root.inverse.Tie as tie
 seed-requires : tie.Need-seed-requires
 seed-requires c κs = search needs
 
-cast-y : tie.Need-cast-y
-cast-y c = search needs
-
 mul-p : tie.Need-mul-p
 mul-p c = omega (arith, square (c .seed .result) (c .seed .ensures))
 
@@ -32,4 +29,4 @@ returns-2 c = search needs
 
 pub inverse-spec : {M : Type 1} → statement M
 inverse-spec =
-    tie.close (tie.spec seed-requires cast-y mul-p mul-p-2 sub-result mul-result returns returns-2)
+    tie.close (tie.spec seed-requires mul-p mul-p-2 sub-result mul-result returns returns-2)
