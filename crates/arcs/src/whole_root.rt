@@ -3,8 +3,8 @@ ghost use mathlib.Core.Path.{_≡_};
 ghost use Prim.Native.Nat.{_≤_, _<_};
 ghost use Rattle.arcs.specs.How.{wholeRoot};
 
-// 2^16 over the root of (i + 1/2) / 128, to the nearest whole number, for i from 32 to 127. The arms
-// are made by tools/arc_table.py; a wrong one would cost time alone.
+// 2^16 over the root of (i + 1/2) / 128, to the nearest whole number, for i from 32 to 127; what lies
+// below is not asked for. The arms are made by tools/arc_table.py; a wrong one would cost time alone.
 fn seed(i: u64) -> u64
     ensures { λ r. ⌜ r ≤ 131072 ⌝ }
 {
@@ -109,23 +109,20 @@ fn seed(i: u64) -> u64
     }
 }
 
-// 2^39 over the root of h, near enough: one step of Newton's from the seed.
+// 2^39 over the root of h, near enough: one step of Newton's from the seed. p is near 2^24.
 fn inverse(h: u64) -> u64
     requires { ⌜ h < 1073741824 ⌝ }
     ensures { λ r. ⌜ r ≤ 50331648 ⌝ }
 {
     let y = seed(h / 0x80_0000);
-    let p = y * y / 16 * h / 0x4_0000_0000;
-    if p < 0x300_0000 {
-        y * (0x300_0000 - p) / 0x2_0000
-    } else {
-        0
-    }
+    let p = y * y / 16 * h / 0x4_0000_0000 % 0x200_0000;
+    y * (0x300_0000 - p) / 0x2_0000
 }
 
 // The root of a, near enough, by its leading digits h and their inverse root w.
 fn mended(a: u64, h: u64, w: u64) -> u64
     requires { ⌜ (a < 4503599627370496) × (h < 1073741824) × (w ≤ 50331648) ⌝ }
+    ensures { λ r. ⌜ r ≤ 1073741824 ⌝ }
 {
     let s = h * w / 0x1000_0000;
     let q = s * s;
@@ -138,34 +135,40 @@ fn mended(a: u64, h: u64, w: u64) -> u64
 
 // Near to the root of n. Nothing is said of how near: what takes it mends it.
 fn guess(n: u64) -> u64
-    ensures { λ r. ⌜ r ≤ 33554432 ⌝ }
+    ensures { λ r. ⌜ r ≤ 1073741824 ⌝ }
 {
-    let z = (u64::leading_zeros(n) + 52) % 64 / 2;
+    let z = (u64::leading_zeros(n) + 52) / 2 % 32;
     let a = (n << (2 * z)) % 0x10_0000_0000_0000;
     let h = a / 0x40_0000;
-    let g = mended(a, h, inverse(h)) >> z;
-    if g < 0x200_0000 { g } else { 0x200_0000 }
+    mended(a, h, inverse(h)) >> z
 }
 
 // The whole part of the root of n, from any guess.
 fn settle(n: u64, guess: u64) -> u64
-    requires { ⌜ (n ≤ 1125899906842624) × (guess ≤ 33554432) ⌝ }
+    requires { ⌜ (n ≤ 1125899906842624) × (guess ≤ 1073741824) ⌝ }
     ensures { λ r. ⌜ (r ≡ wholeRoot 26 n) × (r ≤ 33554432) ⌝ }
 {
     let mut r = guess;
     while n < r * r {
         r -= 1;
     }
-    while (r + 1) * (r + 1) <= n {
+    while 2 * r < n - r * r {
         r += 1;
     }
     r
 }
 
-// The whole part of the root of n, for n up to 2^50.
+// The whole part of the root of n, for n up to 2^50. A good guess is taken as it is.
 pub fn whole_root(n: u64) -> u64
     requires { ⌜ n ≤ 1125899906842624 ⌝ }
     ensures { λ r. ⌜ (r ≡ wholeRoot 26 n) × (r ≤ 33554432) ⌝ }
 {
-    settle(n, guess(n))
+    let r = guess(n);
+    let q = r * r;
+    if q <= n {
+        if n - q <= 2 * r {
+            return r;
+        }
+    }
+    settle(n, r)
 }
