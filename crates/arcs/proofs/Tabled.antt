@@ -1,11 +1,9 @@
--- A table that passes its computed test holds what it should at each place: the angles and the seeds. Assumes nothing.
-use Prim.Native.Nat.{ℕ, _≤_, _<_}
-use mathlib.Core.Path.{_≡_, refl, sym, subst}
+-- A table of angles written as a `match`: an arm that passes its computed test holds `arcTangent`, and the last arm is the last place. Assumes nothing.
+use Prim.Native.Nat.{ℕ, zero, suc, _≤_, _<_}
+use mathlib.Core.Path.{_≡_, refl, sym, ap, _∙_, subst}
 use mathlib.Core.Bool.{Bool}
-use mathlib.Core.List.{List}
-use lib.Dec.{T, leb, eqb, leb→le, eqb→eq}
-use lib.ListN.{length, getD}
-use Rattle.series.proofs.Tables.{every, at}
+use native.Mathlib.Omega.{arith}
+use lib.Dec.{T, eqb, eqb→eq, ltb, ltb→lt}
 use Rattle.arc_rows.specs.ArcTangent.{arcTangent}
 use Rattle.arc_rows.proofs.Rows.{row-size}
 
@@ -14,16 +12,24 @@ unfoldable pub angled : ℕ → ℕ → Bool
 unfolding arcTangent
 angled k t = eqb t (arcTangent k)
 
-pub angle-at : (table : List ℕ) → T (every angled 0 table) → length table ≡ 129 → (k : ℕ) → k < 129 → (getD table k 0 ≡ arcTangent k) × (getD table k 0 ≤ 843314857)
+-- an arm: k is i, and the arm's number v passes the test at i
+pub held : {k i v : ℕ} → k ≡ i → T (angled i v) → T (ltb i 129) → (v ≡ arcTangent k) × (v ≤ 843314857)
 unfolding angled
-angle-at table t n k h =
-    let e : getD table k 0 ≡ arcTangent k = eqb→eq (getD table k 0) (arcTangent k) (at angled table t k (subst (λ (m : ℕ). k < m) (sym n) h)) in
-    (e, subst (λ (m : ℕ). m ≤ 843314857) (sym e) (row-size k h .2))
+held {k} {i} {v} e t l =
+    let h : v ≡ arcTangent i = eqb→eq v (arcTangent i) t in
+    (h ∙ ap arcTangent (sym e), subst (λ (m : ℕ). m ≤ 843314857) (sym h) (row-size i (ltb→lt i 129 l) .2))
 
--- the test of one seed
-unfoldable pub small : ℕ → ℕ → Bool
-small i r = leb r 131072
+-- k is none of the first n places
+abbrev pub Beyond : ℕ → ℕ → Type 0
+Beyond k zero = Unit {0}
+Beyond k (suc n) = Beyond k n × (k ≡ n → ⊥)
 
-pub seed-at : (table : List ℕ) → T (every small 0 table) → length table ≡ 128 → (i : ℕ) → i < 128 → getD table i 0 ≤ 131072
-unfolding small
-seed-at table t n i h = leb→le (getD table i 0) 131072 (at small table t i (subst (λ (m : ℕ). i < m) (sym n) h))
+beyond : (k n : ℕ) → Beyond k n → n ≤ k
+beyond k zero b = omega arith
+beyond k (suc n) b = let h = beyond k n (b .0) in omega (arith, b .1)
+
+pub held-last : {k v : ℕ} → Beyond k 128 → k < 129 → T (angled 128 v) → (v ≡ arcTangent k) × (v ≤ 843314857)
+held-last {k} {v} b h t = held {k = k} {i = 128} {v = v} (last (beyond k 128 b)) t tt
+  where
+    last : 128 ≤ k → k ≡ 128
+    last g = omega arith

@@ -65,8 +65,8 @@ root-of Q h =
     two : (s r : ℕ) → s ≤ 1125899906842624 → 1125899906842624 - s < (r + 1) * (r + 1) → 1125899906842624 < s + (r + 1) * (r + 1)
     two s r k g = omega arith
 
--- ---- `settle`
-pub sq-small : (q : ℕ) → q ≤ 33554433 → q * q ≤ 1125899973951489
+-- ---- `settle` and `whole_root`
+pub sq-small : (q : ℕ) → q ≤ 1073741824 → q * q ≤ 1152921504606846976
 sq-small q h = mul-le-mul h h
 
 pub side-le : (r n : ℕ) → r * r ≤ n → n ≤ 1125899906842624 → r ≤ 33554432
@@ -74,3 +74,14 @@ side-le r n h k = under (sq-lt-back r 33554433 (omega arith))
   where
     under : r < 33554433 → r ≤ 33554432
     under g = omega arith
+
+-- one more still fits
+pub next-le : (r n : ℕ) → r * r ≤ n → 2 * r < n - r * r → (r + 1) * (r + 1) ≤ n
+next-le r n h k = omega arith
+
+-- one more does not fit: so r is the root
+pub root-is : (n r : ℕ) → n ≤ 1125899906842624 → r * r ≤ n → n - r * r ≤ 2 * r → (r ≡ wholeRoot 26 n) × (r ≤ 33554432)
+root-is n r h lo hi = (one-root n r h lo (past lo hi), side-le r n lo h)
+  where
+    past : r * r ≤ n → n - r * r ≤ 2 * r → n < (r + 1) * (r + 1)
+    past a b = omega arith

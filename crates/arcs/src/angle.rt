@@ -23,7 +23,7 @@ fn slope(u: u32, v: u32) -> u32
     let y = 128 * u - k * v;
     let x = 128 * v as u64 + k as u64 * u as u64;
     let z = 0x4000_0000 * y as u64 / x;
-    table::entry(k as usize) + z as u32
+    table::entry(k) + z as u32
 }
 
 // The angle of (x, y): at most a quarter turn, in units of 2^-30.

@@ -51,9 +51,6 @@ mul-z c = search needs
 div-z : tie.Need-div-z
 div-z c = search needs
 
-cast-entry : tie.Need-cast-entry
-cast-entry c = omega (arith, fitted c)
-
 entry-requires : tie.Need-entry-requires
 entry-requires c κs = fitted c .k-lt
 
@@ -82,7 +79,6 @@ slope-spec =
     cast-z
     mul-z
     div-z
-    cast-entry
     entry-requires
     cast-result
     add-result

@@ -1,28 +1,139 @@
--- `arcs::table::entry` meets its contract: the whole table, read off the code, passes the test of each angle, which antt computes here.
-use mathlib.Core.Path.{refl}
-use mathlib.Core.List.{List}
-use Prim.Native.Nat.{ℕ}
-use borrow.Table.Row.{get}
-use borrow.Author.Needs.{needs}
-use Rattle.arcs.proofs.Tabled.{angled, angle-at}
+-- `arcs::table::entry` meets its contract: antt computes `arcTangent k` at each arm, and what is none of the first 128 is 128.
+use Rattle.arcs.proofs.Tabled.{angled, held, held-last}
 use Rattle.arcs.proofs.table.entry.Statement.{statement}
 use Rattle.arcs.proofs.table.entry.Tie as tie
-use Rattle.arcs.proofs.table.entry.Reads as reads
-use Rattle.arcs.proofs.table.entry.Lts as lts
-
--- the constant, as the function holds it
-abbrev angles : tie.Start → List ℕ
-angles c = get 2 (lts.T2 .locals) (lts.m1 reads.Pre reads.Post (c .args) (c .blocks))
-
-mul-result : tie.Need-mul-result
-mul-result c = search needs
-
-array-read-result : tie.Need-array-read-result
-array-read-result c = search needs
-
-returns : tie.Need-returns
-unfolding angled
-returns c = angle-at (angles c) tt refl (c .args .k) (c .pre)
 
 pub entry-spec : {M : Type 1} → statement M
-entry-spec = tie.close (tie.spec mul-result array-read-result returns)
+unfolding angled
+entry-spec =
+    tie.close
+    (tie.spec
+    (λ c. held (c .match .keys1) tt tt)
+    (λ c. held (c .match .keys2) tt tt)
+    (λ c. held (c .match .keys3) tt tt)
+    (λ c. held (c .match .keys4) tt tt)
+    (λ c. held (c .match .keys5) tt tt)
+    (λ c. held (c .match .keys6) tt tt)
+    (λ c. held (c .match .keys7) tt tt)
+    (λ c. held (c .match .keys8) tt tt)
+    (λ c. held (c .match .keys9) tt tt)
+    (λ c. held (c .match .keys10) tt tt)
+    (λ c. held (c .match .keys11) tt tt)
+    (λ c. held (c .match .keys12) tt tt)
+    (λ c. held (c .match .keys13) tt tt)
+    (λ c. held (c .match .keys14) tt tt)
+    (λ c. held (c .match .keys15) tt tt)
+    (λ c. held (c .match .keys16) tt tt)
+    (λ c. held (c .match .keys17) tt tt)
+    (λ c. held (c .match .keys18) tt tt)
+    (λ c. held (c .match .keys19) tt tt)
+    (λ c. held (c .match .keys20) tt tt)
+    (λ c. held (c .match .keys21) tt tt)
+    (λ c. held (c .match .keys22) tt tt)
+    (λ c. held (c .match .keys23) tt tt)
+    (λ c. held (c .match .keys24) tt tt)
+    (λ c. held (c .match .keys25) tt tt)
+    (λ c. held (c .match .keys26) tt tt)
+    (λ c. held (c .match .keys27) tt tt)
+    (λ c. held (c .match .keys28) tt tt)
+    (λ c. held (c .match .keys29) tt tt)
+    (λ c. held (c .match .keys30) tt tt)
+    (λ c. held (c .match .keys31) tt tt)
+    (λ c. held (c .match .keys32) tt tt)
+    (λ c. held (c .match .keys33) tt tt)
+    (λ c. held (c .match .keys34) tt tt)
+    (λ c. held (c .match .keys35) tt tt)
+    (λ c. held (c .match .keys36) tt tt)
+    (λ c. held (c .match .keys37) tt tt)
+    (λ c. held (c .match .keys38) tt tt)
+    (λ c. held (c .match .keys39) tt tt)
+    (λ c. held (c .match .keys40) tt tt)
+    (λ c. held (c .match .keys41) tt tt)
+    (λ c. held (c .match .keys42) tt tt)
+    (λ c. held (c .match .keys43) tt tt)
+    (λ c. held (c .match .keys44) tt tt)
+    (λ c. held (c .match .keys45) tt tt)
+    (λ c. held (c .match .keys46) tt tt)
+    (λ c. held (c .match .keys47) tt tt)
+    (λ c. held (c .match .keys48) tt tt)
+    (λ c. held (c .match .keys49) tt tt)
+    (λ c. held (c .match .keys50) tt tt)
+    (λ c. held (c .match .keys51) tt tt)
+    (λ c. held (c .match .keys52) tt tt)
+    (λ c. held (c .match .keys53) tt tt)
+    (λ c. held (c .match .keys54) tt tt)
+    (λ c. held (c .match .keys55) tt tt)
+    (λ c. held (c .match .keys56) tt tt)
+    (λ c. held (c .match .keys57) tt tt)
+    (λ c. held (c .match .keys58) tt tt)
+    (λ c. held (c .match .keys59) tt tt)
+    (λ c. held (c .match .keys60) tt tt)
+    (λ c. held (c .match .keys61) tt tt)
+    (λ c. held (c .match .keys62) tt tt)
+    (λ c. held (c .match .keys63) tt tt)
+    (λ c. held (c .match .keys64) tt tt)
+    (λ c. held (c .match .keys65) tt tt)
+    (λ c. held (c .match .keys66) tt tt)
+    (λ c. held (c .match .keys67) tt tt)
+    (λ c. held (c .match .keys68) tt tt)
+    (λ c. held (c .match .keys69) tt tt)
+    (λ c. held (c .match .keys70) tt tt)
+    (λ c. held (c .match .keys71) tt tt)
+    (λ c. held (c .match .keys72) tt tt)
+    (λ c. held (c .match .keys73) tt tt)
+    (λ c. held (c .match .keys74) tt tt)
+    (λ c. held (c .match .keys75) tt tt)
+    (λ c. held (c .match .keys76) tt tt)
+    (λ c. held (c .match .keys77) tt tt)
+    (λ c. held (c .match .keys78) tt tt)
+    (λ c. held (c .match .keys79) tt tt)
+    (λ c. held (c .match .keys80) tt tt)
+    (λ c. held (c .match .keys81) tt tt)
+    (λ c. held (c .match .keys82) tt tt)
+    (λ c. held (c .match .keys83) tt tt)
+    (λ c. held (c .match .keys84) tt tt)
+    (λ c. held (c .match .keys85) tt tt)
+    (λ c. held (c .match .keys86) tt tt)
+    (λ c. held (c .match .keys87) tt tt)
+    (λ c. held (c .match .keys88) tt tt)
+    (λ c. held (c .match .keys89) tt tt)
+    (λ c. held (c .match .keys90) tt tt)
+    (λ c. held (c .match .keys91) tt tt)
+    (λ c. held (c .match .keys92) tt tt)
+    (λ c. held (c .match .keys93) tt tt)
+    (λ c. held (c .match .keys94) tt tt)
+    (λ c. held (c .match .keys95) tt tt)
+    (λ c. held (c .match .keys96) tt tt)
+    (λ c. held (c .match .keys97) tt tt)
+    (λ c. held (c .match .keys98) tt tt)
+    (λ c. held (c .match .keys99) tt tt)
+    (λ c. held (c .match .keys100) tt tt)
+    (λ c. held (c .match .keys101) tt tt)
+    (λ c. held (c .match .keys102) tt tt)
+    (λ c. held (c .match .keys103) tt tt)
+    (λ c. held (c .match .keys104) tt tt)
+    (λ c. held (c .match .keys105) tt tt)
+    (λ c. held (c .match .keys106) tt tt)
+    (λ c. held (c .match .keys107) tt tt)
+    (λ c. held (c .match .keys108) tt tt)
+    (λ c. held (c .match .keys109) tt tt)
+    (λ c. held (c .match .keys110) tt tt)
+    (λ c. held (c .match .keys111) tt tt)
+    (λ c. held (c .match .keys112) tt tt)
+    (λ c. held (c .match .keys113) tt tt)
+    (λ c. held (c .match .keys114) tt tt)
+    (λ c. held (c .match .keys115) tt tt)
+    (λ c. held (c .match .keys116) tt tt)
+    (λ c. held (c .match .keys117) tt tt)
+    (λ c. held (c .match .keys118) tt tt)
+    (λ c. held (c .match .keys119) tt tt)
+    (λ c. held (c .match .keys120) tt tt)
+    (λ c. held (c .match .keys121) tt tt)
+    (λ c. held (c .match .keys122) tt tt)
+    (λ c. held (c .match .keys123) tt tt)
+    (λ c. held (c .match .keys124) tt tt)
+    (λ c. held (c .match .keys125) tt tt)
+    (λ c. held (c .match .keys126) tt tt)
+    (λ c. held (c .match .keys127) tt tt)
+    (λ c. held (c .match .keys128) tt tt)
+    (λ c. held-last (c .match .rest) (c .before .pre) tt))

@@ -1,6 +1,7 @@
--- `arcs::whole_root::guess` meets its contract: the answer is cut at 2 ^ 25.
-use lib.Count.{leading-le}
+-- `arcs::whole_root::guess` meets its contract: a shift to the right makes nothing larger.
+use native.Mathlib.Nat.{le-trans, div-le-self}
 use native.Mathlib.Omega.{arith}
+use lib.Count.{leading-le}
 use borrow.Author.Needs.{needs}
 use Rattle.arcs.proofs.whole_root.guess.Statement.{statement}
 use Rattle.arcs.proofs.whole_root.guess.Tie as tie
@@ -23,17 +24,14 @@ inverse-requires c κs = search needs
 mended-requires : tie.Need-mended-requires
 mended-requires c κs = search needs
 
-cast-g : tie.Need-cast-g
-cast-g c = search needs
+cast-result : tie.Need-cast-result
+cast-result c = search needs
 
-shr-g : tie.Need-shr-g
-shr-g c = search needs
+shr-result : tie.Need-shr-result
+shr-result c = search needs
 
 returns : tie.Need-returns
-returns c = search needs
-
-returns-2 : tie.Need-returns-2
-returns-2 c = search needs
+returns c = le-trans (div-le-self (c .mended .result) _) (c .mended .ensures)
 
 pub guess-spec : {M : Type 1} → statement M
 guess-spec =
@@ -45,7 +43,6 @@ guess-spec =
     shl-a
     inverse-requires
     mended-requires
-    cast-g
-    shr-g
-    returns
-    returns-2)
+    cast-result
+    shr-result
+    returns)

@@ -1,5 +1,5 @@
 -- `arcs::whole_root::inverse` meets its contract: no product overflows.
-use Prim.Native.Nat.{_*_, _/_}
+use Prim.Native.Nat.{_*_, _/_, _%_}
 use native.Mathlib.Omega.{arith}
 use Rattle.arcs.proofs.Seeds.{square, times-h, last}
 use borrow.Author.Needs.{needs}
@@ -8,9 +8,6 @@ use Rattle.arcs.proofs.whole_root.inverse.Tie as tie
 
 seed-requires : tie.Need-seed-requires
 seed-requires c κs = search needs
-
-cast-y : tie.Need-cast-y
-cast-y c = search needs
 
 mul-p : tie.Need-mul-p
 mul-p c = omega (arith, square (c .seed .result) (c .seed .ensures))
@@ -22,14 +19,10 @@ sub-result : tie.Need-sub-result
 sub-result c = search needs
 
 mul-result : tie.Need-mul-result
-mul-result c = omega (arith, last (c .before .seed .result) (c .before .seed .result * c .before .seed .result / 16 * c .before .before .args .h / 17179869184) (c .before .seed .ensures))
+mul-result c = omega (arith, last (c .seed .result) (c .seed .result * c .seed .result / 16 * c .before .args .h / 17179869184 % 33554432) (c .seed .ensures))
 
 returns : tie.Need-returns
-returns c = omega (arith, last (c .before .seed .result) (c .before .seed .result * c .before .seed .result / 16 * c .before .before .args .h / 17179869184) (c .before .seed .ensures))
-
-returns-2 : tie.Need-returns-2
-returns-2 c = search needs
+returns c = omega (arith, last (c .seed .result) (c .seed .result * c .seed .result / 16 * c .before .args .h / 17179869184 % 33554432) (c .seed .ensures))
 
 pub inverse-spec : {M : Type 1} → statement M
-inverse-spec =
-    tie.close (tie.spec seed-requires cast-y mul-p mul-p-2 sub-result mul-result returns returns-2)
+inverse-spec = tie.close (tie.spec seed-requires mul-p mul-p-2 sub-result mul-result returns)
