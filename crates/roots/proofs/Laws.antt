@@ -3,21 +3,19 @@
 use mathlib.Core.Path.{_≡_, refl, sym, ap, _∙_, subst}
 use mathlib.Core.Logic.{_⊎_, inl, inr}
 use Prim.Native.Nat.{ℕ, zero, suc, _+_, _-_, _*_, _/_, _^_, _≤_, _<_, zero-le}
-use native.Mathlib.Nat.{le-refl, le-trans, le-of-eq, le-of-lt, le-antisymm, lt-of-lt-of-le, lt-of-le-of-lt, lt-of-not-le, mul-le-mul, mul-le-mul-right, mul-pos, lt-irrefl, zero-mul, zero-div, zero-lt-suc}
+use native.Mathlib.Nat.{le-trans, le-of-eq, le-antisymm, lt-of-lt-of-le, lt-of-le-of-lt, mul-le-mul, mul-le-mul-right, mul-pos, lt-irrefl, zero-mul, zero-div, zero-lt-suc}
 use native.Mathlib.Omega.{arith}
-use mathlib.Core.Bool.{Bool, true, false, not}
-use lib.IntN.{ℤ, pos}
-use lib.Dec.{T, ltb, lt→ltb, lit<, lit≤}
+use mathlib.Core.Bool.{Bool, true, false}
+use lib.IntN.{pos}
+use lib.Dec.{T, lt→ltb, lit<, lit≤}
 use lib.Pow.{pow-pos, pow-mono}
 use lib.Ieee.{Float, nan, inf, fin, binary32, up, down, units, toBits, fits, le}
 use lib.Ieee.Exact.{HasValue, units-val}
 use lib.Ieee.Positive.{positive, positive-of-value}
-use lib.Ieee.Scale as scale
 use Rattle.numbers.specs.Door.{finite, permits}
 use Rattle.numbers.specs.Limits.{rootArgument}
 use Rattle.units.specs.Units.{unity, Part, hi, lo, mag, Units}
-use Rattle.units.specs.Patterns.{val}
-use Rattle.units.proofs.Values.{mag-is, mag-parts, hi-is, lo-is, units-of, plus-part, positive-value}
+use Rattle.units.proofs.Values.{mag-is, lo-is, plus-part}
 use Rattle.units.proofs.Held.{single}
 use Rattle.units.proofs.Order.{le-part, le-values}
 use Rattle.units.proofs.Patterns.{one-value, units-fits}
@@ -25,9 +23,9 @@ use Rattle.units.proofs.Digits.{digits-of}
 use Rattle.units.proofs.Above.{pattern, mag-val, mag-pos, mag-value}
 use Rattle.units.proofs.Door.{finite-is, permitted-mag, permitted-above}
 use Rattle.units.proofs.Table.{root-argument-ends}
-use Rattle.roots.specs.How.{sq, Nearest, nearestRoot}
+use Rattle.roots.specs.How.{sq}
 use Rattle.roots.specs.Root.{squareRoot, Closest}
-use Rattle.roots.proofs.Squares.{sq-le, sq-lt-back}
+use Rattle.roots.proofs.Squares.{sq-le}
 use Rattle.roots.proofs.Nearest.{nearest-root, nearest-mono, q-low, q-high, square-high, square-low}
 use Rattle.roots.proofs.Exists.{Found, root-exists}
 use Rattle.roots.proofs.Closest.{nearest-above, nearest-below}
