@@ -67,6 +67,9 @@ module _ (x : Float) (F : T (fits binary32 x)) (P : T (positive x)) where
   pub root-positive : T (positive (squareRoot x))
   root-positive = positive-of-value (squareRoot x) (found .0 * 2 ^ found .1) unity root-val root-pos
 
+not-lt : {a b : ℕ} → (b < a → ⊥) → a ≤ b
+not-lt {a} {b} k = omega arith
+
 -- ---- one answer
 pub closest-only : (x y z : Float) → Closest x y → Closest x z → y ≡ z
 closest-only x y z c d =
@@ -75,13 +78,10 @@ closest-only x y z c d =
   where
     same-size : (a b m : ℕ) → (a < b → sq (a + b) < m) → (a < b → m < sq (a + b)) → (b < a → sq (b + a) < m) → (b < a → m < sq (b + a)) → a ≡ b
     same-size a b m f g i j =
-        le-antisymm (le-of-not-lt (λ (u : b < a). clash (sq (b + a)) m (i u) (j u))) (le-of-not-lt (λ (u : a < b). clash (sq (a + b)) m (f u) (g u)))
+        le-antisymm (not-lt (λ (u : b < a). clash (sq (b + a)) m (i u) (j u))) (not-lt (λ (u : a < b). clash (sq (a + b)) m (f u) (g u)))
       where
         clash : (s t : ℕ) → s < t → t < s → ⊥
         clash s t k l = omega arith
-
-        le-of-not-lt : {s t : ℕ} → (t < s → ⊥) → s ≤ t
-        le-of-not-lt {s} {t} k = omega arith
 
 pub only-root : (x y : Float) → T (fits binary32 x) → T (positive x) → Closest x y → y ≡ squareRoot x
 only-root x y F P c = closest-only x y (squareRoot x) c (root-closest x F P)
@@ -160,9 +160,6 @@ twice' a b n h u v = let w : sq (b + a) ≤ sq (a + a) = sq-le (omega arith) in 
 
     clash : (s t n q : ℕ) → s ≤ t → 4 * n < s → q ≤ n → t ≡ 4 * q → ⊥
     clash s t n q a b c d = omega arith
-
-not-lt : {a b : ℕ} → (b < a → ⊥) → a ≤ b
-not-lt {a} {b} k = omega arith
 
 pub root-most : (x z : Float) → T (fits binary32 x) → lo x ≡ 0 → T (fits binary32 z) → mag x * unity ≤ sq (mag z) → mag (squareRoot x) ≤ mag z
 root-most x z F l G h = elim (which x) [

@@ -3,15 +3,15 @@
 use mathlib.Core.Path.{_≡_, ap, _∙_}
 use mathlib.Core.Logic.{_⊎_, inl, inr}
 use Prim.Native.Nat.{ℕ, _+_, _-_, _*_, _≤_, _<_}
-use native.Mathlib.Nat.{le-trans, le-of-eq, lt-of-le-of-lt, mul-assoc, mul-le-mul, mul-le-mul-right, mul-pos, zero-mul, add-comm, le-of-lt}
+use native.Mathlib.Nat.{le-trans, le-of-eq, lt-of-le-of-lt, mul-assoc, mul-le-mul, mul-le-mul-right, mul-pos, zero-mul, add-comm}
 use native.Mathlib.Omega.{arith}
-use mathlib.Core.Bool.{Bool, true, false, not}
-use lib.Dec.{T, leb, leb→le, nleb→lt}
+use mathlib.Core.Bool.{Bool, true, false}
 use lib.Pow.{pow-pos}
 use lib.Ieee.{Float, Format, low, add, sub, mul, div}
 use lib.Ieee.Exact.{HasValue}
 use lib.Ieee.Scale.{grid, overflow}
 use Rattle.units.specs.Units.{one, Part, turned}
+use Rattle.units.proofs.Whole.{total}
 use Rattle.units.proofs.Grid.{grid-mono, grid-zero}
 use Rattle.units.proofs.Values.{one-side}
 use Rattle.units.proofs.Add.{add-part, sub-part}
@@ -23,13 +23,6 @@ pub record Result (f : Format) (x : Float) (a : ℕ) : Type 0 where
   pub n : ℕ
   pub part : Part f x p n
   pub most : p + n ≤ a
-
-total : (a b : ℕ) → (a ≤ b) ⊎ (b ≤ a)
-total a b = go (leb a b) (leb→le a b) (nleb→lt a b)
-  where
-    go : (x : Bool) → (T x → a ≤ b) → (T (not x) → b < a) → (a ≤ b) ⊎ (b ≤ a)
-    go true l g = inl (l tt)
-    go false l g = inr (le-of-lt (g tt))
 
 one-pos : (f : Format) → 0 < one f
 one-pos f = pow-pos (low f)

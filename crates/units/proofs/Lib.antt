@@ -1,3 +1,4 @@
+pub mod Whole
 mod Half
 pub mod Grid
 pub mod Values

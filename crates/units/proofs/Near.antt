@@ -1,16 +1,17 @@
 -- How far each operation rounds, for either format. Where the exact result is the fraction i / v of units, times 2 ^ prec the error is at most the result and half a unit.
 -- And where the exact result is below 2 ^ (prec + j) units, the error is at most half of 2 ^ j units.
 use mathlib.Core.Path.{_≡_, sym, subst}
+use mathlib.Core.Logic.{inl, inr}
 use Prim.Native.Nat.{ℕ, _+_, _-_, _*_, _^_, _≤_, _<_}
-use native.Mathlib.Nat.{le-of-lt, mul-sub, mul-pos}
+use native.Mathlib.Nat.{mul-sub, mul-pos}
 use native.Mathlib.Omega.{arith}
-use mathlib.Core.Bool.{Bool, true, false, not}
-use lib.Dec.{T, leb, leb→le, nleb→lt}
+use mathlib.Core.Bool.{Bool}
 use lib.Pow.{pow-pos}
 use lib.Ieee.{Float, Format, prec, low, hid, add, sub, mul, div}
 use lib.Ieee.Exact.{HasValue}
 use lib.Ieee.Scale.{grid, overflow}
 use Rattle.units.specs.Units.{one, Part, gap, turned}
+use Rattle.units.proofs.Whole.{total}
 use Rattle.units.proofs.Grid.{grid-abs, grid-rel}
 use Rattle.units.proofs.Add.{add-part, sub-part}
 use Rattle.units.proofs.Multiply.{mul-part, div-part}
@@ -21,7 +22,7 @@ Near f g a v = 2 * hid f * gap (g * v) (a * one f) ≤ a * one f + hid f * v
 
 -- ---- of a rounded fraction
 either-way : (h G n b : ℕ) → 2 * h * G ≤ (2 * h + 1) * n + b → 2 * h * n ≤ 2 * h * G + n + b → 2 * h * gap G n ≤ n + b
-either-way h G n b above below = go (leb n G) (leb→le n G) (nleb→lt n G)
+either-way h G n b above below = elim (total n G) [ inl l ↦ higher l | inr l ↦ lower l ]
   where
     higher : n ≤ G → 2 * h * gap G n ≤ n + b
     higher l =
@@ -34,10 +35,6 @@ either-way h G n b above below = go (leb n G) (leb→le n G) (nleb→lt n G)
         let e : gap G n ≡ n - G = omega arith in
         let m : 2 * h * (n - G) ≡ 2 * h * n - 2 * h * G = mul-sub (2 * h) n G in
         subst (λ (w : ℕ). 2 * h * w ≤ n + b) (sym e) (subst (λ (w : ℕ). w ≤ n + b) (sym m) (omega arith))
-
-    go : (t : Bool) → (T t → n ≤ G) → (T (not t) → G < n) → 2 * h * gap G n ≤ n + b
-    go true l g = higher (l tt)
-    go false l g = lower (le-of-lt (g tt))
 
 pub grid-near : (f : Format) (a v : ℕ) → 0 < v → Near f (grid f a v) a v
 grid-near f a v P = let r = grid-rel f a v P in either-way (hid f) (grid f a v * v) (a * one f) (hid f * v) (r .0) (r .1)

@@ -1,25 +1,18 @@
 -- The rounded fraction is the nearest f32: no f32, of w units, is nearer to a / c.
 use mathlib.Core.Path.{_≡_, sym, ap, _∙_}
-use mathlib.Core.Logic.{_⊎_, inl, inr}
+use mathlib.Core.Logic.{inl, inr}
 use Prim.Native.Nat.{ℕ, suc, _+_, _*_, _/_, _^_, _≤_, _<_}
 use native.Mathlib.Nat.{le-trans, le-of-eq, le-of-lt, lt-of-lt-of-le, lt-of-le-of-lt, lt-of-mul-lt-mul-right, mul-le-mul-right, le-div-iff-mul-le, eq-zero-or-pos}
 use native.Mathlib.Omega.{arith}
-use mathlib.Core.Bool.{Bool, true, false, not}
-use lib.Dec.{T, leb, leb→le, nleb→lt, lit<}
+use lib.Dec.{lit<}
 use lib.Pow.{pow-add}
 use lib.Ieee.{size}
 use lib.Ieee.Digits.{size-reaches}
 use lib.Ieee.Order.{drop, kept}
 use Rattle.units.specs.Units.{unity, gap, rounded}
+use Rattle.units.proofs.Whole.{le-or-lt}
 use Rattle.units.proofs.Grid.{cell, cell-near, kept-ge, used}
 use Rattle.units.proofs.Digits.{Digits, multiple}
-
-le-or-lt : (a b : ℕ) → (a ≤ b) ⊎ (b < a)
-le-or-lt a b = go (leb a b) (leb→le a b) (nleb→lt a b)
-  where
-    go : (t : Bool) → (T t → a ≤ b) → (T (not t) → b < a) → (a ≤ b) ⊎ (b < a)
-    go true f g = inl (f tt)
-    go false f g = inr (g tt)
 
 -- G is within half a step of n; what is a step from G is no nearer
 step-above : (G n s W : ℕ) → 2 * G ≤ 2 * n + s → 2 * n ≤ 2 * G + s → G + s ≤ W → gap G n ≤ gap W n
