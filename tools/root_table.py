@@ -24,5 +24,4 @@ def arc(row):
 
 
 for row in range(128):
-    print("        %d => Arc {" % row)
-    print("            start: %d,\n            rise: %d,\n            bend: %d,\n        }," % arc(row))
+    print("        %d => Arc(%d, %d, %d)," % ((row,) + arc(row)))

@@ -1,18 +1,13 @@
 -- No other number of 24 digits is as near to the root as the nearest one: the midpoint lies on the other side.
-use mathlib.Core.Path.{_≡_, refl, sym, ap, _∙_, subst}
-use mathlib.Core.Logic.{_⊎_, inl, inr}
-use Prim.Native.Nat.{ℕ, zero, suc, _+_, _-_, _*_, _/_, _%_, _^_, _≤_, _<_}
-use native.Mathlib.Nat.{le-trans, le-of-eq, lt-of-lt-of-le, lt-of-le-of-lt, lt-of-not-le, not-le-of-lt, mul-assoc, mul-one, mul-div-cancel, div-one, zero-mul, zero-div, mul-lt-mul-of-pos-right, lt-of-mul-lt-mul-right, mul-le-mul-left, mul-le-mul-right, add-mul, eq-or-lt-of-le}
+use mathlib.Core.Path.{_≡_, sym, ap, _∙_, subst}
+use mathlib.Core.Logic.{inl, inr}
+use Prim.Native.Nat.{ℕ, suc, _+_, _-_, _*_, _^_, _≤_, _<_}
+use native.Mathlib.Nat.{le-trans, le-of-eq, lt-of-lt-of-le, lt-of-le-of-lt, mul-assoc, lt-of-mul-lt-mul-right, mul-le-mul-left, mul-le-mul-right, add-mul, eq-or-lt-of-le}
 use native.Mathlib.Omega.{arith}
-use mathlib.Core.Bool.{Bool, true, false, not, _&&_}
-use lib.IntN.{ℤ, pos, negsuc}
-use lib.Dec.{T, leb, ltb, eqb, leb→le, nleb→lt, ltb→lt, lit<}
-use lib.Pow.{pow-add, pow-pos, pow-mono, pow-lt}
-use lib.Ieee.{Float, nan, inf, fin, binary32, up, down, fits}
-use lib.Ieee.Fits.{and-l, and-r, down-pos}
-use Rattle.units.proofs.Digits.{Digits, digits-of, multiple}
+use Rattle.units.proofs.Whole.{le-or-lt}
+use Rattle.units.proofs.Digits.{Digits, multiple}
 use Rattle.roots.specs.How.{sq, Nearest}
-use Rattle.roots.proofs.Squares.{sq-le, sq-lt-back}
+use Rattle.roots.proofs.Squares.{sq-le}
 use Rattle.roots.proofs.Nearest.{four, q-low}
 
 sq-lt : {a b : ℕ} → a < b → sq a < sq b
@@ -20,13 +15,6 @@ sq-lt {a} {b} h = lt-of-lt-of-le (next a) (sq-le h)
   where
     next : (c : ℕ) → c * c < suc c * suc c
     next c = omega arith
-
-le-or-lt : (a b : ℕ) → (a ≤ b) ⊎ (b < a)
-le-or-lt a b = go (leb a b) (leb→le a b) (nleb→lt a b)
-  where
-    go : (t : Bool) → (T t → a ≤ b) → (T (not t) → b < a) → (a ≤ b) ⊎ (b < a)
-    go true f g = inl (f tt)
-    go false f g = inr (g tt)
 
 -- ---- no other number of 24 digits is as near
 module _ {n q k : ℕ} (h : Nearest n q k) (w : ℕ) (d : Digits w) where

@@ -1,9 +1,9 @@
 -- What `squareRoot` gives: above zero the nearest root of the units; anything else comes back as it is.
 use mathlib.Core.Path.{_≡_, refl, sym, ap, _∙_}
-use Prim.Native.Nat.{ℕ, zero, suc, _<_}
+use Prim.Native.Nat.{zero, suc}
 use native.Mathlib.Nat.{zero-lt-suc}
-use mathlib.Core.Bool.{Bool, true, false}
-use lib.Dec.{T, ltb, lt→ltb}
+use mathlib.Core.Bool.{true, false}
+use lib.Dec.{T, lt→ltb}
 use lib.Ieee.{Float, nan, inf, fin, binary32, fits, toBits}
 use lib.Ieee.Positive.{positive}
 use Rattle.units.specs.Units.{mag}

@@ -3,21 +3,19 @@
 use mathlib.Core.Path.{_≡_, refl, sym, ap, _∙_, subst}
 use mathlib.Core.Logic.{_⊎_, inl, inr}
 use Prim.Native.Nat.{ℕ, zero, suc, _+_, _-_, _*_, _/_, _^_, _≤_, _<_, zero-le}
-use native.Mathlib.Nat.{le-refl, le-trans, le-of-eq, le-of-lt, le-antisymm, lt-of-lt-of-le, lt-of-le-of-lt, lt-of-not-le, mul-le-mul, mul-le-mul-right, mul-pos, lt-irrefl, zero-mul, zero-div, zero-lt-suc}
+use native.Mathlib.Nat.{le-trans, le-of-eq, le-antisymm, lt-of-lt-of-le, lt-of-le-of-lt, mul-le-mul, mul-le-mul-right, mul-pos, lt-irrefl, zero-mul, zero-div, zero-lt-suc}
 use native.Mathlib.Omega.{arith}
-use mathlib.Core.Bool.{Bool, true, false, not}
-use lib.IntN.{ℤ, pos}
-use lib.Dec.{T, ltb, lt→ltb, lit<, lit≤}
+use mathlib.Core.Bool.{Bool, true, false}
+use lib.IntN.{pos}
+use lib.Dec.{T, lt→ltb, lit<, lit≤}
 use lib.Pow.{pow-pos, pow-mono}
 use lib.Ieee.{Float, nan, inf, fin, binary32, up, down, units, toBits, fits, le}
 use lib.Ieee.Exact.{HasValue, units-val}
 use lib.Ieee.Positive.{positive, positive-of-value}
-use lib.Ieee.Scale as scale
 use Rattle.numbers.specs.Door.{finite, permits}
 use Rattle.numbers.specs.Limits.{rootArgument}
 use Rattle.units.specs.Units.{unity, Part, hi, lo, mag, Units}
-use Rattle.units.specs.Patterns.{val}
-use Rattle.units.proofs.Values.{mag-is, mag-parts, hi-is, lo-is, units-of, plus-part, positive-value}
+use Rattle.units.proofs.Values.{mag-is, lo-is, plus-part}
 use Rattle.units.proofs.Held.{single}
 use Rattle.units.proofs.Order.{le-part, le-values}
 use Rattle.units.proofs.Patterns.{one-value, units-fits}
@@ -25,9 +23,9 @@ use Rattle.units.proofs.Digits.{digits-of}
 use Rattle.units.proofs.Above.{pattern, mag-val, mag-pos, mag-value}
 use Rattle.units.proofs.Door.{finite-is, permitted-mag, permitted-above}
 use Rattle.units.proofs.Table.{root-argument-ends}
-use Rattle.roots.specs.How.{sq, Nearest, nearestRoot}
+use Rattle.roots.specs.How.{sq}
 use Rattle.roots.specs.Root.{squareRoot, Closest}
-use Rattle.roots.proofs.Squares.{sq-le, sq-lt-back}
+use Rattle.roots.proofs.Squares.{sq-le}
 use Rattle.roots.proofs.Nearest.{nearest-root, nearest-mono, q-low, q-high, square-high, square-low}
 use Rattle.roots.proofs.Exists.{Found, root-exists}
 use Rattle.roots.proofs.Closest.{nearest-above, nearest-below}
@@ -69,6 +67,9 @@ module _ (x : Float) (F : T (fits binary32 x)) (P : T (positive x)) where
   pub root-positive : T (positive (squareRoot x))
   root-positive = positive-of-value (squareRoot x) (found .0 * 2 ^ found .1) unity root-val root-pos
 
+not-lt : {a b : ℕ} → (b < a → ⊥) → a ≤ b
+not-lt {a} {b} k = omega arith
+
 -- ---- one answer
 pub closest-only : (x y z : Float) → Closest x y → Closest x z → y ≡ z
 closest-only x y z c d =
@@ -77,13 +78,10 @@ closest-only x y z c d =
   where
     same-size : (a b m : ℕ) → (a < b → sq (a + b) < m) → (a < b → m < sq (a + b)) → (b < a → sq (b + a) < m) → (b < a → m < sq (b + a)) → a ≡ b
     same-size a b m f g i j =
-        le-antisymm (le-of-not-lt (λ (u : b < a). clash (sq (b + a)) m (i u) (j u))) (le-of-not-lt (λ (u : a < b). clash (sq (a + b)) m (f u) (g u)))
+        le-antisymm (not-lt (λ (u : b < a). clash (sq (b + a)) m (i u) (j u))) (not-lt (λ (u : a < b). clash (sq (a + b)) m (f u) (g u)))
       where
         clash : (s t : ℕ) → s < t → t < s → ⊥
         clash s t k l = omega arith
-
-        le-of-not-lt : {s t : ℕ} → (t < s → ⊥) → s ≤ t
-        le-of-not-lt {s} {t} k = omega arith
 
 pub only-root : (x y : Float) → T (fits binary32 x) → T (positive x) → Closest x y → y ≡ squareRoot x
 only-root x y F P c = closest-only x y (squareRoot x) c (root-closest x F P)
@@ -162,9 +160,6 @@ twice' a b n h u v = let w : sq (b + a) ≤ sq (a + a) = sq-le (omega arith) in 
 
     clash : (s t n q : ℕ) → s ≤ t → 4 * n < s → q ≤ n → t ≡ 4 * q → ⊥
     clash s t n q a b c d = omega arith
-
-not-lt : {a b : ℕ} → (b < a → ⊥) → a ≤ b
-not-lt {a} {b} k = omega arith
 
 pub root-most : (x z : Float) → T (fits binary32 x) → lo x ≡ 0 → T (fits binary32 z) → mag x * unity ≤ sq (mag z) → mag (squareRoot x) ≤ mag z
 root-most x z F l G h = elim (which x) [

@@ -1,9 +1,8 @@
 -- Squares of whole numbers, and what `settle` asks of them.
 use mathlib.Core.Path.{_≡_}
-use Prim.Native.Nat.{ℕ, zero, suc, _+_, _-_, _*_, _/_, _^_, _≤_, _<_}
-use native.Mathlib.Nat.{mul-le-mul, lt-of-not-le, not-le-of-lt, le-trans, lt-of-lt-of-le, lt-of-le-of-lt, div-lt-iff-lt-mul}
+use Prim.Native.Nat.{ℕ, zero, suc, _+_, _-_, _*_, _^_, _≤_, _<_}
+use native.Mathlib.Nat.{mul-le-mul, lt-of-not-le, not-le-of-lt}
 use native.Mathlib.Omega.{arith}
-use lib.Dec.{lit<, lit≤}
 
 -- a square keeps the order, both ways
 pub sq-le : {a b : ℕ} → a ≤ b → a * a ≤ b * b

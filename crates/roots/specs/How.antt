@@ -1,7 +1,7 @@
 -- How ours computes a root, on whole numbers; nothing of document 01. `Root` says what the root is, by the squares of whole numbers.
 use mathlib.Core.Path.{_≡_}
 use Prim.Native.Nat.{ℕ, zero, suc, _+_, _-_, _*_, _/_, _%_, _^_, _≤_, _<_}
-use mathlib.Core.Bool.{Bool, true, false, cond}
+use mathlib.Core.Bool.{false, cond}
 use lib.Dec.{leb}
 use lib.Ieee.{Float, binary32, size, units}
 

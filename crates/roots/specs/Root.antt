@@ -1,9 +1,8 @@
 -- Document 01: "Square root: correctly rounded, ties to even, stated by integer squares; of a zero it is that zero."
 -- Every f32 is a whole number of units of 2 ^ -149, `mag`. Where x is n units, its root is the square root of n * 2 ^ 149, in units.
-use mathlib.Core.Path.{_≡_}
 use mathlib.Core.List.{[], _∷_}
-use Prim.Native.Nat.{ℕ, zero, suc, _+_, _*_, _^_, _<_}
-use mathlib.Core.Bool.{Bool, true, false}
+use Prim.Native.Nat.{ℕ, zero, suc, _+_, _*_, _<_}
+use mathlib.Core.Bool.{true, false}
 use lib.Dec.{T}
 use lib.Ieee.{Float, nan, inf, fin, binary32, fits}
 use lib.Ieee.Exact.{HasValue}

@@ -1,19 +1,20 @@
 -- A finite f32 above zero: its pattern lies above 0 and below the infinity's, and its units are those of the pattern.
 use mathlib.Core.Path.{_≡_, refl, sym, ap, _∙_, subst}
-use mathlib.Core.Logic.{_⊎_, inl, inr}
+use mathlib.Core.Logic.{inl, inr}
 use Prim.Native.Nat.{ℕ, zero, suc, _+_, _*_, _/_, _%_, _^_, _≤_, _<_}
-use native.Mathlib.Nat.{zero-lt-suc, mul-pos, mul-one, zero-mul}
+use native.Mathlib.Nat.{zero-lt-suc, mul-pos, zero-mul}
 use native.Mathlib.Omega.{arith}
 use mathlib.Core.Bool.{Bool, true, false, not, _&&_, cond, true≢false}
 use lib.IntN.{ℤ, pos}
-use lib.Dec.{T, leb, ltb, eqb, ltb→lt, nltb→le, lt→ltb, le→leb, lit<}
+use lib.Dec.{T, leb, ltb, eqb, ltb→lt, lt→ltb, le→leb, lit<}
 use lib.Ieee.{Float, nan, inf, fin, binary32, up, down, odd, ofFields, ofBits, toBits, nanBits, fits, isNan, lt}
 use lib.Ieee.Bits.{is-true, ofBits-toBits, nanBits-is}
 use lib.Ieee.Exact.{HasValue}
-use lib.Ieee.Fits.{up-pos, down-pos}
+use lib.Ieee.Fits.{up-pos}
 use lib.Ieee.Positive.{positive, value-pos}
 use Rattle.units.specs.Units.{unity, mag}
 use Rattle.units.specs.Patterns.{val}
+use Rattle.units.proofs.Whole.{le-or-lt}
 use Rattle.units.proofs.Values.{mag-is}
 use Rattle.units.proofs.Patterns.{ofBits-is, sign-clear, bits-val}
 
@@ -113,16 +114,12 @@ negative i l p =
     fields-neg (i % 2147483648 / 8388608) (i % 8388608)
     (subst (λ (w : Float). T (positive w)) (ofBits-is i ∙ ap (λ (s : Bool). ofFields binary32 s (i % 2147483648 / 8388608) (i % 8388608)) (is-true (leb 2147483648 i) (le→leb 2147483648 i l))) p)
 
-here-or-on : (i n : ℕ) → (i < n) ⊎ (n ≤ i)
-here-or-on i n = go (ltb i n) (ltb→lt i n) (nltb→le i n)
-  where
-    go : (b : Bool) → (T b → i < n) → (T (not b) → n ≤ i) → (i < n) ⊎ (n ≤ i)
-    go true f g = inl (f tt)
-    go false f g = inr (g tt)
-
 below-inf : (i : ℕ) → T (positive (ofBits binary32 i)) → i < 2139095040
 below-inf i p =
-    elim (here-or-on i 2139095040) [ inl h ↦ h | inr h ↦ elim (here-or-on i 2147483648) [ inl g ↦ absurd (too-large i h g p) | inr g ↦ absurd (negative i g p) ] ]
+    elim (le-or-lt 2139095040 i) [
+      | inr h ↦ h
+      | inl h ↦ elim (le-or-lt 2147483648 i) [ inr g ↦ absurd (too-large i h g p) | inl g ↦ absurd (negative i g p) ]
+    ]
 
 not-first : (i : ℕ) → T (positive (ofBits binary32 i)) → 0 < i
 not-first zero p = absurd (subst (λ (w : Float). T (positive w)) zero-pattern p)

@@ -1,20 +1,20 @@
 -- Bounds that rounding keeps: what is at most a and at most b in magnitude has a rounded sum, difference, product or quotient of at most the a + b, a b or a / b
 -- that the format holds. And no operation here overflows.
-use mathlib.Core.Path.{_≡_, refl, sym, ap, _∙_, subst}
+use mathlib.Core.Path.{_≡_, ap, _∙_}
 use mathlib.Core.Logic.{_⊎_, inl, inr}
-use Prim.Native.Nat.{ℕ, zero, suc, _+_, _-_, _*_, _/_, _%_, _^_, _≤_, _<_, zero-le}
-use native.Mathlib.Nat.{le-trans, le-of-eq, lt-of-le-of-lt, mul-comm, mul-assoc, mul-left-comm, mul-right-comm, mul-le-mul, mul-le-mul-left, mul-le-mul-right, mul-pos, zero-mul, add-comm, le-of-lt}
+use Prim.Native.Nat.{ℕ, _+_, _-_, _*_, _≤_, _<_}
+use native.Mathlib.Nat.{le-trans, le-of-eq, lt-of-le-of-lt, mul-assoc, mul-le-mul, mul-le-mul-right, mul-pos, zero-mul, add-comm}
 use native.Mathlib.Omega.{arith}
-use mathlib.Core.Bool.{Bool, true, false, not}
-use lib.Dec.{T, leb, leb→le, nleb→lt}
+use mathlib.Core.Bool.{Bool, true, false}
 use lib.Pow.{pow-pos}
-use lib.Ieee.{Float, Format, low, add, sub, mul, div, neg}
+use lib.Ieee.{Float, Format, low, add, sub, mul, div}
 use lib.Ieee.Exact.{HasValue}
 use lib.Ieee.Scale.{grid, overflow}
 use Rattle.units.specs.Units.{one, Part, turned}
-use Rattle.units.proofs.Grid.{grid-mono, grid-same, grid-zero}
+use Rattle.units.proofs.Whole.{total}
+use Rattle.units.proofs.Grid.{grid-mono, grid-zero}
 use Rattle.units.proofs.Values.{one-side}
-use Rattle.units.proofs.Add.{add-part, sub-part, neg-part}
+use Rattle.units.proofs.Add.{add-part, sub-part}
 use Rattle.units.proofs.Multiply.{mul-part, div-part}
 
 -- the result is p - n units, and at most a of them
@@ -23,13 +23,6 @@ pub record Result (f : Format) (x : Float) (a : ℕ) : Type 0 where
   pub n : ℕ
   pub part : Part f x p n
   pub most : p + n ≤ a
-
-total : (a b : ℕ) → (a ≤ b) ⊎ (b ≤ a)
-total a b = go (leb a b) (leb→le a b) (nleb→lt a b)
-  where
-    go : (x : Bool) → (T x → a ≤ b) → (T (not x) → b < a) → (a ≤ b) ⊎ (b ≤ a)
-    go true l g = inl (l tt)
-    go false l g = inr (le-of-lt (g tt))
 
 one-pos : (f : Format) → 0 < one f
 one-pos f = pow-pos (low f)

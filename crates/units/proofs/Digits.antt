@@ -1,15 +1,14 @@
 -- Every f32 is a number of 24 digits times a power of two, in units; so from 2 ^ 23 * 2 ^ k units on it is a multiple of 2 ^ k.
-use mathlib.Core.Path.{_≡_, refl, sym, ap, _∙_, subst}
-use mathlib.Core.Logic.{_⊎_, inl, inr}
+use mathlib.Core.Path.{_≡_, refl, sym, ap, _∙_}
 use Prim.Native.Nat.{ℕ, zero, suc, _+_, _-_, _*_, _/_, _%_, _^_, _≤_, _<_}
-use native.Mathlib.Nat.{le-trans, le-of-eq, lt-of-lt-of-le, lt-of-le-of-lt, lt-of-not-le, not-le-of-lt, mul-assoc, mul-one, mul-div-cancel, div-one, zero-mul, zero-div, mul-lt-mul-of-pos-right, lt-of-mul-lt-mul-right, mul-le-mul-left, mul-le-mul-right, add-mul, eq-or-lt-of-le, pow-succ'}
+use native.Mathlib.Nat.{le-of-eq, lt-of-lt-of-le, lt-of-le-of-lt, lt-of-not-le, not-le-of-lt, mul-assoc, mul-one, mul-div-cancel, div-one, zero-mul, zero-div, mul-lt-mul-of-pos-right, pow-succ'}
 use native.Mathlib.Omega.{arith}
-use mathlib.Core.Bool.{Bool, true, false, not, _&&_}
+use mathlib.Core.Bool.{Bool, true, _&&_}
 use lib.IntN.{ℤ, pos, negsuc}
-use lib.Dec.{T, leb, ltb, eqb, leb→le, nleb→lt, ltb→lt, lit<}
+use lib.Dec.{T, leb, ltb, eqb, leb→le, ltb→lt, lit<}
 use lib.Pow.{pow-add, pow-pos, pow-mono, pow-lt}
 use lib.Ieee.{Float, nan, inf, fin, binary32, up, down, fits}
-use lib.Ieee.Fits.{and-l, and-r, down-pos}
+use lib.Ieee.Fits.{and-l, and-r}
 use Rattle.units.specs.Units.{unity, mag}
 
 abbrev pub Digits : ℕ → Type 0

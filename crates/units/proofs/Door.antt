@@ -1,18 +1,18 @@
 -- From the door's tests to units: what is finite and permitted is a whole number of units, between the units of the two ends.
-use mathlib.Core.Path.{_≡_, refl, sym, ap, _∙_, subst}
+use mathlib.Core.Path.{_≡_, refl, sym, subst}
 use mathlib.Core.Logic.{_⊎_, inl, inr}
-use Prim.Native.Nat.{ℕ, zero, suc, _+_, _-_, _*_, _/_, _^_, _≤_, _<_}
+use Prim.Native.Nat.{ℕ, _+_, _≤_}
 use native.Mathlib.Nat.{le-trans, le-of-eq}
 use native.Mathlib.Omega.{arith}
-use mathlib.Core.Bool.{Bool, true, false, not, _&&_}
+use mathlib.Core.Bool.{Bool, true, false}
 use lib.Dec.{T}
-use lib.Ieee.{Float, nan, inf, fin, binary32, fits, le, lt, eq}
+use lib.Ieee.{Float, nan, inf, fin, binary32, fits, le}
 use lib.Ieee.Fits.{and-l, and-r}
 use lib.Ieee.Scale as scale
 use Rattle.numbers.specs.Door.{finite, permits}
 use Rattle.numbers.specs.declared.door.Limit.{Limit}
-use Rattle.units.specs.Units.{Part, hi, lo, mag, Units}
-use Rattle.units.proofs.Values.{hi-is, lo-is, mag-parts, one-side, part-finite}
+use Rattle.units.specs.Units.{Part, hi, lo, mag}
+use Rattle.units.proofs.Values.{mag-parts, one-side, part-finite}
 use Rattle.units.proofs.Held.{Single, single}
 use Rattle.units.proofs.Order.{le-part}
 

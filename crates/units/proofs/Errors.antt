@@ -1,16 +1,14 @@
 -- How far f32 rounds, in numbers that `omega` takes: sums, products and quotients of a known size, with the error a power of two; and any, within one part in 1024.
 -- `omega` refuses numerals of 40 digits and more, and 1 is 2 ^ 149 units, so each law is first proved with a variable u for it, and then taken at it.
-use mathlib.Core.Path.{_≡_, refl, sym, ap, _∙_, subst}
-use mathlib.Core.Logic.{_⊎_, inl, inr}
-use Prim.Native.Nat.{ℕ, zero, suc, _+_, _-_, _*_, _/_, _%_, _^_, _≤_, _<_, zero-le}
-use native.Mathlib.Nat.{le-trans, le-of-eq, lt-of-lt-of-le, lt-of-le-of-lt, mul-comm, mul-assoc, mul-left-comm, mul-right-comm, mul-le-mul, mul-le-mul-left, mul-le-mul-right, mul-lt-mul-of-pos-right, le-of-mul-le-mul-right, mul-pos}
+use mathlib.Core.Path.{_≡_, ap, _∙_}
+use Prim.Native.Nat.{ℕ, _+_, _*_, _^_, _≤_, _<_}
+use native.Mathlib.Nat.{le-of-eq, lt-of-lt-of-le, mul-le-mul-right, mul-lt-mul-of-pos-right, le-of-mul-le-mul-right, mul-pos}
 use native.Mathlib.Omega.{arith}
-use lib.Dec.{lit<, lit≤}
-use lib.Pow.{pow-pos, pow-add, pow-mono}
+use lib.Dec.{lit<}
+use lib.Pow.{pow-pos}
 use lib.Ieee.{binary32}
-use lib.Ieee.Order.{drop, kept}
-use lib.Ieee.Scale.{grid, overflow}
-use Rattle.units.specs.Units.{unity, rounded, Exact}
+use lib.Ieee.Order.{drop}
+use Rattle.units.specs.Units.{unity, rounded}
 use Rattle.units.proofs.Grid.{cell, cell-near, cell-abs, cell-le, drop-rel, grid-mono, grid-zero}
 
 pub unity-pos : 0 < unity

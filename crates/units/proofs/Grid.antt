@@ -3,17 +3,17 @@
 use mathlib.Core.Path.{_≡_, refl, sym, ap, _∙_, subst}
 use mathlib.Core.Logic.{_⊎_, inl, inr}
 use Prim.Native.Nat.{ℕ, zero, suc, _+_, _-_, _*_, _/_, _%_, _^_, _≤_, _<_, zero-le, compare}
-use native.Mathlib.Nat.{le-antisymm, mul-right-comm, lt-of-le-of-lt, eq-or-lt-of-le, div-div-eq-div-mul, le-trans, le-of-eq, lt-of-lt-of-le, mul-comm, mul-assoc, mul-left-comm, mul-le-mul-left, mul-le-mul-right, mul-pos, le-div-iff-mul-le, div-lt-iff-lt-mul, eq-zero-or-pos, mul-one, zero-mul}
+use native.Mathlib.Nat.{le-antisymm, mul-right-comm, lt-of-le-of-lt, eq-or-lt-of-le, div-div-eq-div-mul, le-trans, le-of-eq, mul-comm, mul-assoc, mul-left-comm, mul-le-mul-left, mul-le-mul-right, mul-pos, le-div-iff-mul-le, div-lt-iff-lt-mul, eq-zero-or-pos, mul-one, zero-mul}
 use native.Mathlib.Omega.{arith}
 use lib.Pow.{pow-add, pow-pos, pow-mono}
-use lib.Ieee.{Format, prec, emax, low, size, hid}
+use lib.Ieee.{Format, prec, low, size, hid}
 use lib.Ieee.Digits.{size-lt, size-le, size-reaches}
 use lib.Ieee.Fits.{two, two-le-pos, kept-lt, nearest-le}
 use lib.Ieee.Nearest.{closest, closest-mono, div-mono, nearest-ge}
 use lib.Ieee.Order.{drop, kept}
 use lib.Ieee.Scale.{grid}
 use Rattle.units.specs.Units.{one}
-use Rattle.units.proofs.Half.{Near, closest-near}
+use Rattle.units.proofs.Half.{closest-near}
 
 -- ---- p digits are kept of n / c
 
@@ -42,7 +42,7 @@ cell-abs p n c j C h =
     (omega arith, omega arith)
 
 -- c * 2 ^ drop is c, or at most n / 2 ^ (p - 1)
-used : (z p : ℕ) → 0 < p → 0 < z - p → p - 1 + (z - p) < z
+pub used : (z p : ℕ) → 0 < p → 0 < z - p → p - 1 + (z - p) < z
 used z p P h = omega arith
 
 pub drop-rel : (p n c : ℕ) → 0 < p → 0 < c → 2 ^ (p - 1) * (c * 2 ^ drop p n c) ≤ n + 2 ^ (p - 1) * c
@@ -75,7 +75,7 @@ kept-le p n den =
     let u = den * 2 ^ k in
     le-trans (nearest-le (n / u) (compare (n % u * 2) u)) (subst (λ (x : ℕ). x < 2 ^ p) (div-div-eq-div-mul n den (2 ^ k)) (kept-lt p (n / den)))
 
-kept-ge : (p n den : ℕ) → 0 < p → 0 < drop p n den → 2 ^ (p - 1) ≤ kept p n den
+pub kept-ge : (p n den : ℕ) → 0 < p → 0 < drop p n den → 2 ^ (p - 1) ≤ kept p n den
 kept-ge p n den P K =
     let k = drop p n den in
     let u = den * 2 ^ k in

@@ -1,18 +1,18 @@
 -- Bit patterns: the units that each stands for, and that a sign and a number of units stand for one f32.
 use mathlib.Core.Path.{_≡_, refl, sym, ap, _∙_, subst}
-use mathlib.Core.Logic.{_⊎_, inl, inr}
+use mathlib.Core.Logic.{inl, inr}
 use Prim.Native.Nat.{ℕ, zero, suc, _+_, _-_, _*_, _/_, _%_, _^_, _≤_, _<_}
-use native.Mathlib.Nat.{le-refl, le-trans, le-of-eq, lt-of-le-of-lt, lt-of-lt-of-le, not-le-of-lt, eq-or-lt-of-le, mod-eq-of-lt, mul-one, mul-comm, mul-assoc, mul-le-mul, mul-le-mul-right, mul-div-cancel, pow-succ'}
+use native.Mathlib.Nat.{lt-of-le-of-lt, not-le-of-lt, eq-or-lt-of-le, mod-eq-of-lt, mul-one, mul-assoc, mul-le-mul, pow-succ'}
 use native.Mathlib.Omega.{arith}
-use mathlib.Core.Bool.{Bool, true, false, not, cond}
+use mathlib.Core.Bool.{Bool, true, false, cond}
 use lib.IntN.{ℤ}
-use lib.Dec.{T, leb, ltb, eqb, leb→le, eqb→eq, ltb→lt, not-T, lit<, lit≤}
-use lib.Pow.{pow-add, pow-pos, pow-mono, pow-lt}
-use lib.Ieee.{Float, nan, inf, fin, Format, binary32, up, down, size, odd, units, ofFields, ofBits, toBits, nanBits, fits, isNan}
-use lib.Ieee.Bits.{is-false, cond-no, ofBits-toBits, ofBits-fits, nanBits-is}
+use lib.Dec.{T, leb, ltb, eqb, leb→le, eqb→eq, ltb→lt, not-T, lit<}
+use lib.Pow.{pow-mono}
+use lib.Ieee.{Float, nan, inf, fin, binary32, size, odd, units, ofFields, ofBits, toBits, fits}
+use lib.Ieee.Bits.{is-false, cond-no, ofBits-toBits, ofBits-fits}
 use lib.Ieee.Exact.{HasValue, odd-sign, units-val}
-use lib.Ieee.Fits.{odd-fits, down-pos}
-use Rattle.units.specs.Units.{unity, Part, mag}
+use lib.Ieee.Fits.{odd-fits}
+use Rattle.units.specs.Units.{mag}
 use Rattle.units.specs.Patterns.{valOf, val}
 use Rattle.units.proofs.Values.{mag-is}
 

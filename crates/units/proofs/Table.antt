@@ -1,8 +1,7 @@
 -- Document 01's table in units: what the two ends of each row are. The rows are opened here and nowhere else.
-use mathlib.Core.Path.{_≡_, refl}
-use Prim.Native.Nat.{ℕ, _*_, _^_}
+use mathlib.Core.Path.{refl}
+use Prim.Native.Nat.{_*_, _^_}
 use Rattle.numbers.specs.Limits as rows
-use Rattle.numbers.specs.declared.door.Limit.{Limit}
 use Rattle.units.specs.Units.{unity}
 use Rattle.units.proofs.Door.{Ends}
 

@@ -1,18 +1,17 @@
 -- A rounded fraction's parts, at either sign; the parts, the magnitude and the value of a float, each from the other.
 use mathlib.Core.Path.{_≡_, refl, sym, ap, _∙_, subst}
 use mathlib.Core.Logic.{_⊎_, inl, inr}
-use Prim.Native.Nat.{ℕ, zero, suc, _+_, _-_, _*_, _/_, _%_, _^_, _≤_, _<_, zero-le}
-use native.Mathlib.Nat.{le-trans, le-of-eq, mul-div-cancel, add-zero, zero-add, mul-comm, mul-assoc, mul-left-comm, mul-pos, zero-mul}
+use Prim.Native.Nat.{ℕ, _+_, _*_, _/_, _^_, _<_}
+use native.Mathlib.Nat.{mul-div-cancel, add-zero, zero-add}
 use native.Mathlib.Omega.{arith}
-use mathlib.Core.Bool.{Bool, true, false, not, true≢false}
+use mathlib.Core.Bool.{Bool, true, false, true≢false}
 use lib.Dec.{T}
-use lib.Pow.{pow-pos}
 use lib.Ieee.{Float, nan, inf, fin, Format, binary32, prec, low, up, down, round}
 use lib.Ieee.Fits.{round-is, down-pos}
 use lib.Ieee.Exact.{HasValue, units-val}
 use lib.Ieee.Order.{drop, kept}
 use lib.Ieee.Scale.{grid, overflow, finite}
-use Rattle.units.specs.Units.{one, unity, Part, hi, lo, mag, Units, plusOf, minusOf}
+use Rattle.units.specs.Units.{one, unity, Part, hi, lo, mag, Units}
 use Rattle.units.proofs.Grid.{grid-zero, grid-same}
 
 -- the value of `round` at either sign

@@ -1,7 +1,7 @@
 -- A finite float as a whole number of units. The unit of a format is its smallest value above zero: 2 ^ -149 for f32.
 -- Signs are told by parts: a number is p - n units, of which one is 0. So an order, a sum and an error are each linear, and no whole number is negative.
 use mathlib.Core.Path.{_≡_}
-use Prim.Native.Nat.{ℕ, zero, suc, _+_, _-_, _*_, _/_, _^_}
+use Prim.Native.Nat.{ℕ, _+_, _-_, _*_, _/_, _^_}
 use mathlib.Core.Bool.{Bool, true, false}
 use lib.Ieee.{Float, nan, inf, fin, Format, binary32, low, up, down}
 use lib.Ieee.Scale.{grid}

@@ -1,7 +1,7 @@
 -- `roots::core::square_root` meets its contract. What passes the two tests is a finite number above zero, whose pattern `root_bits` takes.
-use mathlib.Core.Path.{_≡_, sym, ap, _∙_, subst}
+use mathlib.Core.Path.{sym, _∙_, subst}
 use lib.Dec.{T}
-use lib.Ieee.{Float, binary32, fits}
+use lib.Ieee.{binary32, fits}
 use Rattle.units.proofs.Above.{above-zero, not-above-zero, above-no-nan, infinity-no-nan, pattern, pattern-no-nan}
 use Rattle.roots.proofs.Given.{root-by-bits, root-back}
 use Rattle.roots.proofs.core.square_root.Statement.{statement}

@@ -1,6 +1,4 @@
 -- `roots::digits::lift` meets its contract. With z zeros above the 24 places the digits start at 2 ^ (23 - z).
-use mathlib.Core.Path.{_≡_, subst, sym}
-use Prim.Native.Nat.{ℕ, _+_, _-_, _*_, _%_, _^_, _≤_, _<_}
 use native.Mathlib.Omega.{arith}
 use borrow.Author.Needs.{needs}
 use lib.Count.{leadingZeros}

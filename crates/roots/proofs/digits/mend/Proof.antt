@@ -1,5 +1,5 @@
 -- `roots::digits::mend` meets its contract. The first loop ends with n ≤ q * q + q, which the second keeps.
-use Prim.Native.Nat.{ℕ, _+_, _-_, _*_, _^_, _≤_, _<_}
+use Prim.Native.Nat.{_+_, _-_, _*_, _^_, _≤_}
 use native.Mathlib.Omega.{arith}
 use Rattle.roots.proofs.Squares.{sq-small, under-24, one-less}
 use Rattle.roots.proofs.digits.mend.Statement.{statement}

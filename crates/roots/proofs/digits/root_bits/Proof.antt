@@ -1,7 +1,7 @@
 -- `roots::digits::root_bits` meets its contract. What `settle` finds is the nearest root of the pattern's number, and its bits are the digits beside the power.
-use Prim.Native.Nat.{ℕ, _+_, _-_, _*_, _/_, _%_, _^_, _≤_, _<_}
+use Prim.Native.Nat.{ℕ, _+_, _-_, _*_, _/_, _^_, _≤_, _<_}
 use native.Mathlib.Omega.{arith}
-use mathlib.Core.Path.{_≡_, sym, _∙_}
+use mathlib.Core.Path.{sym, _∙_}
 use Rattle.units.specs.Patterns.{val}
 use Rattle.units.proofs.Patterns.{joined-bits}
 use Rattle.roots.specs.How.{Nearest}

@@ -1,5 +1,5 @@
 -- `roots::digits::spread` meets its contract. A field of 0 is a subnormal number, which `lift` takes.
-use Prim.Native.Nat.{ℕ, _+_, _-_, _*_, _/_, _%_, _^_, _≤_, _<_}
+use Prim.Native.Nat.{ℕ, _/_, _%_, _<_}
 use native.Mathlib.Omega.{arith}
 use borrow.Author.Needs.{needs}
 use Rattle.roots.proofs.Powers.{field-zero, field-more}

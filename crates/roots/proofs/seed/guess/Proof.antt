@@ -9,9 +9,9 @@ use Rattle.roots.proofs.seed.guess.Tie as tie
 part : (m : ℕ) → m % 131072 < 131072
 part m = omega arith
 
-here : (c : tie.After-arc-at) → Curve (c .arc-at .result .rise) (c .arc-at .result .bend) (c .before .args .m % 131072)
+here : (c : tie.After-arc-at) → Curve (c .arc-at .result .1) (c .arc-at .result .2) (c .before .args .m % 131072)
 here c =
-    curve (c .arc-at .result .rise) (c .arc-at .result .bend) (c .before .args .m % 131072)
+    curve (c .arc-at .result .1) (c .arc-at .result .2) (c .before .args .m % 131072)
     (c .arc-at .ensures .rise-high) (c .arc-at .ensures .bend-high) (part (c .before .args .m))
 
 cast-arc-at : tie.Need-cast-arc-at
