@@ -1,4 +1,7 @@
 pub mod Refusals
+pub mod Largest
+pub mod Squares
 pub mod Steps
 pub mod FootByFoot
 pub mod OneAnswer
+pub mod Examples

@@ -8,6 +8,10 @@ use Rattle.legs.specs.Legs.{Leg, row, foot}
 use Rattle.legs.specs.declared.Point.{Point}
 use Rattle.legs.specs.declared.Feet.{Feet}
 
+-- what holds of all three coordinates
+abbrev pub Each : (Float → Type 0) → Point → Type 0
+Each P p = P (p .x) × P (p .y) × P (p .z)
+
 -- "points equal in every component as numbers"
 unfoldable pub same : Point → Point → Bool
 same a b = eq (a .x) (b .x) && eq (a .y) (b .y) && eq (a .z) (b .z)
@@ -19,13 +23,19 @@ square x = mul binary32 x x
 abbrev pub apart² : Float → Float → Float
 apart² a b = square (sub binary32 b a)
 
--- "the distance is the root of x², y², z² summed in that order"
-unfoldable pub distance : Point → Point → Float
-distance a b = squareRoot (add binary32 (add binary32 (apart² (a .x) (b .x)) (apart² (a .y) (b .y))) (apart² (a .z) (b .z)))
+-- "x², y², z² summed in that order", and x² and y² alone
+unfoldable pub squareSum : Point → Point → Float
+squareSum a b = add binary32 (add binary32 (apart² (a .x) (b .x)) (apart² (a .y) (b .y))) (apart² (a .z) (b .z))
 
--- "taken in x and y only"
+unfoldable pub horizontalSum : Point → Point → Float
+horizontalSum a b = add binary32 (apart² (a .x) (b .x)) (apart² (a .y) (b .y))
+
+-- "the distance is the root of" that sum, or "taken in x and y only"
+unfoldable pub distance : Point → Point → Float
+distance a b = squareRoot (squareSum a b)
+
 unfoldable pub horizontalDistance : Point → Point → Float
-horizontalDistance a b = squareRoot (add binary32 (apart² (a .x) (b .x)) (apart² (a .y) (b .y)))
+horizontalDistance a b = squareRoot (horizontalSum a b)
 
 -- the largest of a row of numbers; of none it is NaN, from which the source's fold begins
 abbrev pub largestFrom : Float → List Float → Float

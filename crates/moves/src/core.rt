@@ -9,7 +9,7 @@ use legs::Feet;
 use legs::Point;
 ghost use mathlib.Core.Path.{_≡_};
 ghost use Rattle.numbers.specs.Told.{choose};
-ghost use Rattle.moves.specs.Distance.{same, distance, horizontalDistance, longestDistance, maxHorizontalDistance};
+ghost use Rattle.moves.specs.Distance.{same, squareSum, horizontalSum, distance, longestDistance, maxHorizontalDistance};
 ghost use Rattle.moves.specs.Moving.{along, nearer, moveTowards, moveVectorTowards, pointOf, hasMoved, moveFeetTowards};
 ghost use Rattle.moves.specs.Iterators.{nextPoint, nextFeet};
 
@@ -20,23 +20,30 @@ pub fn is_same(a: Point, b: Point) -> bool
     (a.x == b.x) & (a.y == b.y) & (a.z == b.z)
 }
 
-// The root of x², y², z² summed in that order, of the way from a to b.
-pub fn distance(a: Point, b: Point) -> f32
-    ensures { λ r. ⌜ r ≡ distance a b ⌝ }
+// x², y², z² summed in that order, of the way from a to b.
+fn square_sum(a: Point, b: Point) -> f32
+    ensures { λ r. ⌜ r ≡ squareSum a b ⌝ }
 {
     let x = b.x - a.x;
     let y = b.y - a.y;
     let z = b.z - a.z;
-    roots::core::square_root(x * x + y * y + z * z)
+    x * x + y * y + z * z
 }
 
-// The same in x and y only.
-pub fn horizontal_distance(a: Point, b: Point) -> f32
-    ensures { λ r. ⌜ r ≡ horizontalDistance a b ⌝ }
+// x² and y² alone.
+fn horizontal_sum(a: Point, b: Point) -> f32
+    ensures { λ r. ⌜ r ≡ horizontalSum a b ⌝ }
 {
     let x = b.x - a.x;
     let y = b.y - a.y;
-    roots::core::square_root(x * x + y * y)
+    x * x + y * y
+}
+
+// The distance from a to b.
+pub fn distance(a: Point, b: Point) -> f32
+    ensures { λ r. ⌜ r ≡ distance a b ⌝ }
+{
+    roots::core::square_root(square_sum(a, b))
 }
 
 // max_move of the way to the target, where d is the whole of it.
@@ -171,26 +178,28 @@ pub fn next_feet(s: MovingFeet) -> NextFeet
     }
 }
 
-// The largest of the six distances in x, y and z.
+// The largest of the six distances in x, y and z. The largest root is the root of the largest.
 pub fn longest_distance(a: Feet, b: Feet) -> f32
     ensures { λ r. ⌜ r ≡ longestDistance a b ⌝ }
 {
-    let d = distance(a.left_front, b.left_front);
-    let d = numbers::core::max(d, distance(a.right_front, b.right_front));
-    let d = numbers::core::max(d, distance(a.left_middle, b.left_middle));
-    let d = numbers::core::max(d, distance(a.right_middle, b.right_middle));
-    let d = numbers::core::max(d, distance(a.left_rear, b.left_rear));
-    numbers::core::max(d, distance(a.right_rear, b.right_rear))
+    let d = square_sum(a.left_front, b.left_front);
+    let d = numbers::core::max(d, square_sum(a.right_front, b.right_front));
+    let d = numbers::core::max(d, square_sum(a.left_middle, b.left_middle));
+    let d = numbers::core::max(d, square_sum(a.right_middle, b.right_middle));
+    let d = numbers::core::max(d, square_sum(a.left_rear, b.left_rear));
+    let d = numbers::core::max(d, square_sum(a.right_rear, b.right_rear));
+    roots::core::square_root(d)
 }
 
 // The largest of the six distances in x and y only.
 pub fn max_horizontal_distance(a: Feet, b: Feet) -> f32
     ensures { λ r. ⌜ r ≡ maxHorizontalDistance a b ⌝ }
 {
-    let d = horizontal_distance(a.left_front, b.left_front);
-    let d = numbers::core::max(d, horizontal_distance(a.right_front, b.right_front));
-    let d = numbers::core::max(d, horizontal_distance(a.left_middle, b.left_middle));
-    let d = numbers::core::max(d, horizontal_distance(a.right_middle, b.right_middle));
-    let d = numbers::core::max(d, horizontal_distance(a.left_rear, b.left_rear));
-    numbers::core::max(d, horizontal_distance(a.right_rear, b.right_rear))
+    let d = horizontal_sum(a.left_front, b.left_front);
+    let d = numbers::core::max(d, horizontal_sum(a.right_front, b.right_front));
+    let d = numbers::core::max(d, horizontal_sum(a.left_middle, b.left_middle));
+    let d = numbers::core::max(d, horizontal_sum(a.right_middle, b.right_middle));
+    let d = numbers::core::max(d, horizontal_sum(a.left_rear, b.left_rear));
+    let d = numbers::core::max(d, horizontal_sum(a.right_rear, b.right_rear));
+    roots::core::square_root(d)
 }

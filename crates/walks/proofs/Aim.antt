@@ -6,8 +6,8 @@ use lib.Ieee.Exact.{HasValue}
 use Rattle.units.specs.Units.{Units, unity, hi, lo, mag}
 use Rattle.units.proofs.Held.{Single}
 use Rattle.legs.specs.declared.Point.{Point}
+use Rattle.moves.specs.Distance.{Each}
 use Rattle.walks.specs.Walk.{spread}
-use Rattle.walks.specs.Reach.{Each}
 
 -- both parts are at most k units
 abbrev pub Parts : ℕ → Float → Type 0

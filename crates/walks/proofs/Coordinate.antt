@@ -13,10 +13,11 @@ use lib.Ieee.Exact.{HasValue}
 use lib.Ieee.Scale.{overflow}
 use Rattle.units.specs.Units.{Part, gap, rounded, unity}
 use Rattle.units.proofs.Grid.{grid-zero}
-use Rattle.units.proofs.Add.{add-part, sub-part}
+use Rattle.units.proofs.Add.{add-part}
 use Rattle.units.proofs.Multiply.{mul-part, div-part}
 use Rattle.units.proofs.Errors.{unity-pos, sum-abs, sum-le, div-abs, div-le, mul-abs, mul-le}
 use Rattle.moves.specs.Moving.{component}
+use Rattle.moves.proofs.Squares.{diff, less-32, diff-part}
 use Rattle.walks.proofs.Arithmetic.{Move, Coord, coord-up, coord-flip}
 
 -- the error's unit, 2 ^ -24
@@ -24,9 +25,6 @@ abbrev pub δ : ℕ
 δ = 2 ^ 125
 
 -- ---- bounds, with a variable for unity
-pub less-32 : (a b u : ℕ) → 0 < u → gap a b ≤ 18 * u → (a - b < 32 * u) × (b - a < 32 * u)
-less-32 a b u h g = (omega arith, omega arith)
-
 sum-32 : (a b c u : ℕ) → 0 < u → a ≤ 21 * u → b ≤ 4 * u → a + b - c < 32 * u
 sum-32 a b c u h x y = omega arith
 
@@ -44,9 +42,6 @@ total a b = go (leb a b) (leb→le a b) (nleb→lt a b)
     go false l g = inr (le-of-lt (g tt))
 
 -- ---- one coordinate's numbers
-abbrev pub diff : ℕ → ℕ → ℕ
-diff a b = rounded (a - b) unity
-
 abbrev pub move : ℕ → ℕ → ℕ → ℕ
 move d Q M = rounded (rounded d Q * M) (unity * unity)
 
@@ -109,8 +104,7 @@ module _ (pl nl pt nt Q M : ℕ) (QP : 0 < Q) (MQ : M ≤ Q) (MU : M ≤ unity) 
   coord-part l t dist m lp tp dv mv =
       let a = pt + nl in
       let b = nt + pl in
-      let E = less-32 a b unity unity-pos near in
-      let d : Part binary32 (sub binary32 t l) (diff a b) (diff b a) = sub-part binary32 t l pt nt pl nl tp lp (below-over (diff a b) (sum-le (a - b) (E .0))) (below-over (diff b a) (sum-le (b - a) (E .1))) in
+      let d : Part binary32 (sub binary32 t l) (diff a b) (diff b a) = diff-part t l pt nt pl nl tp lp near in
       let q : Part binary32 (div binary32 (sub binary32 t l) dist) (rounded (diff a b) Q) (rounded (diff b a) Q) =
       div-part binary32 (sub binary32 t l) dist false (diff a b) (diff b a) Q d dv QP
       (below-over (rounded (diff a b) Q) (le-trans (div-le (diff a b) Q QP kp) (lit≤ tt))) (below-over (rounded (diff b a) Q) (le-trans (div-le (diff b a) Q QP kn) (lit≤ tt))) in

@@ -18,13 +18,13 @@ use Rattle.units.proofs.Errors.{unity-pos, sum-le}
 use Rattle.units.proofs.Held.{Single}
 use Rattle.roots.proofs.Laws.{Rooted}
 use Rattle.legs.specs.declared.Point.{Point}
-use Rattle.moves.specs.Distance.{distance}
+use Rattle.moves.specs.Distance.{Each, distance}
 use Rattle.moves.specs.Moving.{component, along}
 use Rattle.walks.specs.Walk.{spread}
-use Rattle.walks.specs.Reach.{Each}
 use Rattle.walks.proofs.Arithmetic.{Coord, pick, under, lower}
-use Rattle.walks.proofs.Coordinate.{diff, next, coord-fact, coord-part, less-32, δ}
-use Rattle.walks.proofs.Far.{distance-rooted, dist-facts, all, sq}
+use Rattle.moves.proofs.Squares.{Near, diff, size, sq, both, all}
+use Rattle.walks.proofs.Coordinate.{next, coord-fact, coord-part, δ}
+use Rattle.walks.proofs.Far.{distance-rooted, dist-facts}
 use Rattle.walks.proofs.Aim.{Aim, OnWay}
 
 pub reach : (pt nt pl nl u : ℕ) → (pl ≡ 0) ⊎ (nl ≡ 0) → gap (pt + nl) (nt + pl) ≤ 18 * u → pt ≤ 3 * u → nt ≤ 3 * u → (pl ≤ 21 * u) × (nl ≤ 21 * u)
@@ -43,9 +43,6 @@ record One (l t dist m : Float) (Q M D : ℕ) : Type 0 where
   still : apart t (component dist m l t) ≤ apart t l + 51 * δ
   most : 9 * Q ≤ 16 * D → 16 * apart t (component dist m l t) + 9 * M ≤ 16 * apart t l + 1072 * δ
 
-abbrev pub size : Float → Float → ℕ
-size t l = diff (hi t + lo l) (lo t + hi l) + diff (lo t + hi l) (hi t + lo l)
-
 one : (l t dist m : Float) (Q M : ℕ) → Units l → Units t → HasValue dist false Q unity → HasValue m false M unity → 0 < Q → M ≤ Q → M ≤ unity
     → hi t ≤ 3 * unity → lo t ≤ 3 * unity → apart t l ≤ 18 * unity → size t l < 2 * Q → One l t dist m Q M (size t l)
 one l t dist m Q M ul ut dv mv QP MQ MU ht nt near k =
@@ -62,22 +59,6 @@ one l t dist m Q M ul ut dv mv QP MQ MU ht nt near k =
       still = subst (λ (w : ℕ). w ≤ apart t l + 51 * δ) e (c .still);
       most = λ h. subst (λ (w : ℕ). 16 * w + 9 * M ≤ 16 * apart t l + 1072 * δ) e (c .most h);
     }
-
--- ---- the difference of one coordinate, rounded
-size-part : (t l : Float) → Units t → Units l → apart t l ≤ 18 * unity → Part binary32 (sub binary32 t l) (diff (hi t + lo l) (lo t + hi l)) (diff (lo t + hi l) (hi t + lo l))
-size-part t l ut ul near =
-    let a = hi t + lo l in
-    let b = lo t + hi l in
-    let E = less-32 a b unity unity-pos near in
-    let fine : (k : ℕ) → k ≤ 2 ^ 154 → k < overflow binary32 = λ k h. lt-of-le-of-lt h (lit< tt) in
-    sub-part binary32 t l (hi t) (lo t) (hi l) (lo l) ut ul (fine (diff a b) (sum-le (a - b) (E .0))) (fine (diff b a) (sum-le (b - a) (E .1)))
-
-size-le : (t l : Float) → apart t l ≤ 18 * unity → size t l ≤ 2 ^ 155
-size-le t l near =
-    let a = hi t + lo l in
-    let b = lo t + hi l in
-    let E = less-32 a b unity unity-pos near in
-    add-le-add {b = 2 ^ 154} {d = 2 ^ 154} (sum-le (a - b) (E .0)) (sum-le (b - a) (E .1))
 
 -- ---- a step that goes along: the distance is above the max move
 module _ (m : Float) (l t : Point) (aim : Aim m t) (way : OnWay l t) (far : T (not (le (distance l t) m))) where
@@ -99,18 +80,17 @@ module _ (m : Float) (l t : Point) (aim : Aim m t) (way : OnWay l t) (far : T (n
       let X = size (t .x) (l .x) in
       let Y = size (t .y) (l .y) in
       let Z = size (t .z) (l .z) in
-      let px = size-part (t .x) (l .x) (aim .target .0 .ok) (way .point .0 .ok) (near .0) in
-      let py = size-part (t .y) (l .y) (aim .target .1 .ok) (way .point .1 .ok) (near .1) in
-      let pz = size-part (t .z) (l .z) (aim .target .2 .ok) (way .point .2 .ok) (near .2) in
-      let w : Rooted (distance l t) (all X Y Z) =
-      distance-rooted l t
-      (diff (hi (t .x) + lo (l .x)) (lo (t .x) + hi (l .x))) (diff (lo (t .x) + hi (l .x)) (hi (t .x) + lo (l .x)))
-      (diff (hi (t .y) + lo (l .y)) (lo (t .y) + hi (l .y))) (diff (lo (t .y) + hi (l .y)) (hi (t .y) + lo (l .y)))
-      (diff (hi (t .z) + lo (l .z)) (lo (t .z) + hi (l .z))) (diff (lo (t .z) + hi (l .z)) (hi (t .z) + lo (l .z)))
-      px py pz (size-le (t .x) (l .x) (near .0)) (size-le (t .y) (l .y) (near .1)) (size-le (t .z) (l .z) (near .2)) in
+      let n : Near l t = record {
+        from = (way .point .0 .ok, way .point .1 .ok, way .point .2 .ok);
+        to = (aim .target .0 .ok, aim .target .1 .ok, aim .target .2 .ok);
+        x = near .0;
+        y = near .1;
+        z = near .2;
+      } in
+      let w : Rooted (distance l t) (all X Y Z) = distance-rooted l t n in
       let MQ : mag m < w .q = not-le-values binary32 (distance l t) m (w .q) (mag m) (w .value) (aim .move) far in
       let D = dist-facts X Y Z (distance l t) w (le-trans (aim .from) (le-of-lt MQ)) in
-      let k = under X Y Z (sq X) (sq Y) (sq Z) (rounded (sq X + sq Y) unity) (all X Y Z) (w .q) unity unity-pos D in
+      let k = under X Y Z (sq X) (sq Y) (sq Z) (both X Y) (all X Y Z) (w .q) unity unity-pos D in
       record {
         Q = w .q;
         value = w .value;
@@ -118,7 +98,7 @@ module _ (m : Float) (l t : Point) (aim : Aim m t) (way : OnWay l t) (far : T (n
         kx = k .0;
         ky = k .1;
         kz = k .2;
-        largest = pick X Y Z (sq X) (sq Y) (sq Z) (rounded (sq X + sq Y) unity) (all X Y Z) (w .q) unity unity-pos D;
+        largest = pick X Y Z (sq X) (sq Y) (sq Z) (both X Y) (all X Y Z) (w .q) unity unity-pos D;
       }
 
   -- the new point is made of units, and S is lower

@@ -18,8 +18,9 @@ use Rattle.legs.specs.Legs.{Leg, leftFront, rightFront, leftMiddle, rightMiddle
 use Rattle.legs.specs.declared.Point.{Point}
 use Rattle.legs.specs.declared.Feet.{Feet}
 use Rattle.moves.proofs.Refusals.{both-hold}
+use Rattle.moves.specs.Distance.{Each}
 use Rattle.walks.specs.Walk.{spread, Walk}
-use Rattle.walks.specs.Reach.{AtMost, Each, Reach, ReachFeet}
+use Rattle.walks.specs.Reach.{AtMost, Reach, ReachFeet}
 use Rattle.walks.specs.Answers.{walkRefusal, walkFeetRefusal}
 use Rattle.walks.proofs.Aim.{Parts}
 use Rattle.walks.proofs.Few.{most-steps}

@@ -13,8 +13,9 @@ use Rattle.units.proofs.Values.{positive-value, mag-is, mag-parts}
 use Rattle.units.proofs.Held.{Single}
 use Rattle.units.proofs.Door.{finite-single}
 use Rattle.legs.specs.declared.Point.{Point}
+use Rattle.moves.specs.Distance.{Each}
 use Rattle.walks.specs.Walk.{spread}
-use Rattle.walks.specs.Reach.{AtMost, Each, Reach}
+use Rattle.walks.specs.Reach.{AtMost, Reach}
 use Rattle.walks.proofs.Aim.{Parts, Aim, OnWay}
 
 abbrev pub Fit : Float → Type 0

@@ -15,13 +15,13 @@ use Rattle.units.proofs.Values.{hi-is, lo-is, one-side, part-finite}
 use Rattle.units.proofs.Errors.{Within, unity-pos, rounded-mono, rounded-zero, sum-abs}
 use Rattle.units.proofs.Held.{Single, single}
 use Rattle.legs.specs.declared.Point.{Point}
-use Rattle.moves.specs.Distance.{distance}
+use Rattle.moves.specs.Distance.{Each, distance}
 use Rattle.moves.specs.Moving.{component, along}
-use Rattle.walks.specs.Reach.{Each}
 use Rattle.walks.proofs.Arithmetic.{move-up}
-use Rattle.walks.proofs.Coordinate.{diff, move, next, coord-part, less-32, moves, move-zero, diff-zero, sum-p, sum-n, δ, total}
+use Rattle.moves.proofs.Squares.{diff, size, less-32}
+use Rattle.walks.proofs.Coordinate.{move, next, coord-part, moves, move-zero, diff-zero, sum-p, sum-n, δ, total}
 use Rattle.walks.proofs.Aim.{Aim, OnWay}
-use Rattle.walks.proofs.Descent.{reach, parts-lt, size, measured, near, lowers}
+use Rattle.walks.proofs.Descent.{reach, parts-lt, measured, near, lowers}
 
 -- ---- on parts: the move is H upwards
 adv : (pl nl Hp Hn : ℕ) → (pl ≡ 0) ⊎ (nl ≡ 0) → Hn ≡ 0 → rounded pl unity ≡ pl → rounded nl unity ≡ nl → pl + rounded (nl + Hn - (pl + Hp)) unity ≤ nl + rounded (pl + Hp - (nl + Hn)) unity

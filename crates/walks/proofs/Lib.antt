@@ -13,3 +13,4 @@ pub mod Feet
 pub mod OneAnswer
 pub mod Trail
 pub mod Unrefused
+pub mod Examples

@@ -13,13 +13,12 @@ use Rattle.units.specs.Units.{unity, hi, lo, mag, apart, gap}
 use Rattle.units.proofs.Order.{eq-of-apart, apart-comm}
 use Rattle.units.proofs.Held.{Single}
 use Rattle.legs.specs.declared.Point.{Point}
-use Rattle.moves.specs.Distance.{same, distance}
+use Rattle.moves.specs.Distance.{Each, same, distance}
 use Rattle.moves.specs.Moving.{moveTowards, nearer, along, pointOf}
 use Rattle.moves.specs.declared.MoveStep.{MoveStep}
 use Rattle.moves.specs.declared.MoveStep.the-variants.{Moved, Arrived}
 use Rattle.moves.proofs.Steps.{stands, moves, goes-there, goes-along, arrived-at-target}
 use Rattle.walks.specs.Walk.{spread}
-use Rattle.walks.specs.Reach.{Each}
 use Rattle.walks.proofs.Aim.{Aim, OnWay}
 use Rattle.walks.proofs.Descent.{lowers}
 use Rattle.walks.proofs.Keeps.{Inside, at-end, inside-step, all-kept, single-along}

@@ -23,8 +23,9 @@ use Rattle.legs.specs.Legs.{finitePoint, permittedPoint}
 use Rattle.legs.specs.declared.Point.{Point}
 use Rattle.moves.specs.Refusals.{moveRefusal}
 use Rattle.moves.proofs.Refusals.{none-refused}
+use Rattle.moves.specs.Distance.{Each}
 use Rattle.walks.specs.Walk.{pointAfter}
-use Rattle.walks.specs.Reach.{Each, Reach}
+use Rattle.walks.specs.Reach.{Reach}
 use Rattle.walks.proofs.Coordinate.{δ}
 use Rattle.walks.proofs.Keeps.{Inside, at-end}
 use Rattle.walks.proofs.Aim.{Parts, Aim, OnWay}

@@ -8,14 +8,11 @@ use Rattle.units.specs.Units.{unity, hi, mag}
 use Rattle.legs.specs.Legs.{Leg, foot}
 use Rattle.legs.specs.declared.Point.{Point}
 use Rattle.legs.specs.declared.Feet.{Feet}
+use Rattle.moves.specs.Distance.{Each}
 
 -- finite, and at most k units in magnitude
 abbrev pub AtMost : ℕ → Float → Type 0
 AtMost k x = T (finite x) × (mag x ≤ k)
-
--- all three coordinates
-abbrev pub Each : (Float → Type 0) → Point → Type 0
-Each P p = P (p .x) × P (p .y) × P (p .z)
 
 pub record Reach (m : Float) (s t : Point) : Type 0 where
   pub start : Each (AtMost (3 * unity)) s

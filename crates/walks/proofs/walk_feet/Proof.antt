@@ -3,8 +3,8 @@ use mathlib.Core.Path.{sym, _∙_}
 use borrow.Author.Tests.{eq-eqb, ne-eqb}
 use borrow.Author.Needs.{needs}
 use Rattle.legs.specs.Legs.{Leg, leftFront, rightFront, leftMiddle, rightMiddle, leftRear, rightRear, foot}
-use Rattle.walks.specs.Reach.{Each}
 use Rattle.units.proofs.Door.{holds}
+use Rattle.moves.specs.Distance.{Each}
 use Rattle.walks.proofs.Given.{Fit}
 use Rattle.walks.proofs.Door.{let-feet-in}
 use Rattle.walks.proofs.walk_feet.Statement.{statement}
