@@ -1,2 +1,4 @@
 mod Bits
 mod Together
+pub mod Laws
+pub mod Within

@@ -15,8 +15,11 @@ use Rattle.commands.specs.declared.MoveCommand.{MoveCommand}
 use Rattle.planner.specs.Turns.{nought, turn, applied, turnBetween}
 use Rattle.planner.specs.declared.core.Trio.{Trio}
 
+abbrev pub trioOf : Point → Point → Point → Trio
+trioOf p q r = record { first = p; second = q; third = r }
+
 abbrev pub trio : Feet → Leg → Leg → Leg → Trio
-trio f a b c = record { first = foot f a; second = foot f b; third = foot f c }
+trio f a b c = trioOf (foot f a) (foot f b) (foot f c)
 
 -- the three that stand, in the order in which their points are summed
 abbrev pub summed : Tripod → Feet → Trio

@@ -4,12 +4,10 @@
 use mathlib.Core.Bool.{Bool, _&&_, _||_}
 use mathlib.Core.List.{List, [], _∷_}
 use lib.ListN.{getD}
-use lib.Ieee.{Float, nan, binary32, ofBits, add, sub, mul, eq}
+use lib.Ieee.{Float, nan, binary32, add, sub, mul, eq}
 use Rattle.numbers.specs.Told.{choose}
 use Rattle.numbers.specs.Limits.{over}
-use Rattle.legs.specs.Legs.{Leg, leftFront, rightFront, leftMiddle, rightMiddle, leftRear, rightRear, foot}
 use Rattle.legs.specs.declared.Point.{Point}
-use Rattle.legs.specs.declared.Feet.{Feet}
 use Rattle.sines.specs.How.{sine, cosine}
 use Rattle.arcs.specs.How.{atan2}
 
@@ -39,10 +37,12 @@ applied m p = record { x = dot (getD m 0 []) p; y = dot (getD m 1 []) p; z = dot
 abbrev pub isZero : Point → Bool
 isZero v = eq (v .x) nought && eq (v .y) nought
 
+-- x1 y2 - y1 x2, and x1 x2 + y1 y2
+abbrev pub across : Point → Point → Float
+across a b = sub binary32 (mul binary32 (a .x) (b .y)) (mul binary32 (a .y) (b .x))
+
+abbrev pub along : Point → Point → Float
+along a b = add binary32 (mul binary32 (a .x) (b .x)) (mul binary32 (a .y) (b .y))
+
 unfoldable pub turnBetween : Point → Point → Float
-turnBetween a b =
-    choose (isZero a || isZero b)
-    nought
-    (atan2
-    (sub binary32 (mul binary32 (a .x) (b .y)) (mul binary32 (a .y) (b .x)))
-    (add binary32 (mul binary32 (a .x) (b .x)) (mul binary32 (a .y) (b .y))))
+turnBetween a b = choose (isZero a || isZero b) nought (atan2 (across a b) (along a b))

@@ -7,7 +7,7 @@ use legs::Point;
 ghost use mathlib.Core.Path.{_≡_};
 ghost use Rattle.numbers.specs.Told.{choose};
 ghost use Rattle.commands.specs.Tripods.{isLRL};
-ghost use Rattle.planner.specs.Plan.{summed, inRow, centre, between, plus, minus, averageTurn, readyFoot, planned};
+ghost use Rattle.planner.specs.Plan.{trioOf, summed, inRow, centre, between, plus, minus, averageTurn, readyFoot, planned};
 ghost use Rattle.planner.specs.How.{readyFeet};
 
 // The three standing feet, in the order in which they are summed.
@@ -17,31 +17,23 @@ pub struct Trio {
     pub third: Point,
 }
 
+fn three(first: Point, second: Point, third: Point) -> Trio
+    ensures { λ r. ⌜ r ≡ trioOf first second third ⌝ }
+{
+    Trio {
+        first: first,
+        second: second,
+        third: third,
+    }
+}
+
 // The standing three in the order in which the source sums their points.
 fn summed(lifted: Tripod, feet: Feet) -> Trio
     ensures { λ r. ⌜ r ≡ summed lifted feet ⌝ }
 {
     match lifted {
-        Tripod::LRL => {
-            let left_middle = feet.left_middle;
-            let right_front = feet.right_front;
-            let right_rear = feet.right_rear;
-            Trio {
-                first: left_middle,
-                second: right_front,
-                third: right_rear,
-            }
-        }
-        Tripod::RLR => {
-            let left_front = feet.left_front;
-            let left_rear = feet.left_rear;
-            let right_middle = feet.right_middle;
-            Trio {
-                first: left_front,
-                second: left_rear,
-                third: right_middle,
-            }
-        }
+        Tripod::LRL => three(feet.left_middle, feet.right_front, feet.right_rear),
+        Tripod::RLR => three(feet.left_front, feet.left_rear, feet.right_middle),
     }
 }
 
@@ -50,26 +42,8 @@ fn in_row(lifted: Tripod, feet: Feet) -> Trio
     ensures { λ r. ⌜ r ≡ inRow lifted feet ⌝ }
 {
     match lifted {
-        Tripod::LRL => {
-            let right_front = feet.right_front;
-            let left_middle = feet.left_middle;
-            let right_rear = feet.right_rear;
-            Trio {
-                first: right_front,
-                second: left_middle,
-                third: right_rear,
-            }
-        }
-        Tripod::RLR => {
-            let left_front = feet.left_front;
-            let right_middle = feet.right_middle;
-            let left_rear = feet.left_rear;
-            Trio {
-                first: left_front,
-                second: right_middle,
-                third: left_rear,
-            }
-        }
+        Tripod::LRL => three(feet.right_front, feet.left_middle, feet.right_rear),
+        Tripod::RLR => three(feet.left_front, feet.right_middle, feet.left_rear),
     }
 }
 

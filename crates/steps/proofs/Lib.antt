@@ -1,5 +1,6 @@
 mod Bits
 mod Legs
+pub mod Times
 pub mod FootByFoot
 pub mod Taken
 pub mod Cases
