@@ -33,12 +33,12 @@ returns : tie.Need-returns
 unfolding baseAngle femurTurn tibiaTurn standing ninety oneFifty
 returns c =
     simp (
-      c .before .before .before .before .before .before .before .cosine3 .ensures,
-      c .before .before .before .before .before .before .before .before .before .sine3 .ensures,
-      c .before .before .before .before .before .before .before .before .before .before .before .cosine2 .ensures,
-      c .before .before .before .before .before .before .before .before .before .before .before .before .before .sine2 .ensures,
-      c .before .before .before .before .before .before .before .before .before .before .before .before .before .before .sine .ensures,
-      c .before .before .before .before .before .before .before .before .before .before .before .before .before .before .before .cosine .ensures,
+      c .before .before .before .before .before .before .before .cosine3 .ensures .0,
+      c .before .before .before .before .before .before .before .before .before .sine3 .ensures .0,
+      c .before .before .before .before .before .before .before .before .before .before .before .cosine2 .ensures .0,
+      c .before .before .before .before .before .before .before .before .before .before .before .before .before .sine2 .ensures .0,
+      c .before .before .before .before .before .before .before .before .before .before .before .before .before .before .sine .ensures .0,
+      c .before .before .before .before .before .before .before .before .before .before .before .before .before .before .before .cosine .ensures .0,
       c .before .before .before .before .before .before .before .before .before .before .before .before .before .before .before .before .before .before .from-motor2 .ensures,
       c .before .before .before .before .before .before .before .before .before .before .before .before .before .before .before .before .before .before .before .from-motor .ensures,
     )

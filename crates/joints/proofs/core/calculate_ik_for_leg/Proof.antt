@@ -19,7 +19,7 @@ returns : tie.Need-returns
 unfolding targetAngle coxaAngle legAngles solvedLeg ninety minusNinety neg ofBits
 returns c =
     simp (
-      ← c .before .before .atan2 .ensures,
+      ← c .before .before .atan2 .ensures .0,
       ← c .before .before .before .relative .ensures,
       c .if1 .taken,
     )
@@ -28,7 +28,7 @@ returns-2 : tie.Need-returns-2
 unfolding targetAngle coxaAngle legAngles solvedLeg ninety minusNinety neg ofBits
 returns-2 c =
     simp (
-      ← c .before .before .before .atan2 .ensures,
+      ← c .before .before .before .atan2 .ensures .0,
       ← c .before .before .before .before .relative .ensures,
       c .before .if1 .left,
       c .if2 .taken,
@@ -39,7 +39,7 @@ unfolding targetAngle coxaAngle legAngles solvedLeg ninety minusNinety neg ofBit
 returns-3 c =
     simp (
       c .solved-angles .ensures,
-      ← c .before .before .before .before .atan2 .ensures,
+      ← c .before .before .before .before .atan2 .ensures .0,
       ← c .before .before .before .before .before .relative .ensures,
       c .before .before .if1 .left,
       c .before .if2 .left,

@@ -17,7 +17,7 @@ returns : tie.Need-returns
 unfolding quotient cut getAlphaAngle
 returns c =
     simp (
-      c .arc-cosine .ensures,
+      c .arc-cosine .ensures .0,
       c .before .max .ensures,
       c .before .before .min .ensures,
     )

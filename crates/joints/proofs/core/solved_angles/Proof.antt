@@ -29,7 +29,7 @@ returns c =
     simp (
       c .to-motor2 .ensures,
       c .before .to-motor .ensures,
-      c .before .before .atan2 .ensures,
+      c .before .before .atan2 .ensures .0,
       c .before .before .before .before .get-alpha-angle2 .ensures,
       c .before .before .before .before .before .get-alpha-angle .ensures,
       c .before .before .before .before .before .before .reach-of .ensures,
