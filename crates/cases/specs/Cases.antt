@@ -1,37 +1,72 @@
 -- Document 01, "Cases to prove (p1 to p12)": one list, one statement. Lengths are metres.
 use mathlib.Core.Path.{_≡_}
 use mathlib.Core.List.{List, [], _∷_}
-use Prim.Native.Nat.{ℕ}
-use lib.Ieee.{Float, nan, neg, binary32}
-use Rattle.hopper.specs.Numbers.NumbersTold.{Told, given, refused}
-use Rattle.hopper.specs.Numbers.NumbersLimits.{over, minus}
+use Prim.Native.Nat.{ℕ, _^_}
+use lib.Ieee.{Float, nan}
+use Rattle.numbers.specs.Told.{given, refused}
+use Rattle.numbers.specs.Limits.{over, minus}
+use Rattle.legs.specs.Legs.{feet, coordinates}
+use Rattle.legs.specs.Answers.{givenFeet}
+use Rattle.legs.specs.Merge.{mergeTold}
+use Rattle.rows.specs.Rows.{updateTold}
+use Rattle.moves.specs.Entries.{moveTold}
+use Rattle.walks.specs.Walk.{Walk}
+use Rattle.steps.specs.Entries.{timedProgressTold, evenProgressTold}
 use Rattle.legs.specs.declared.Point.{Point}
 use Rattle.legs.specs.declared.Feet.{Feet}
-use Rattle.hopper.specs.Legs.LegsLegs.{feet, row, coordinates, values, origin}
-use Rattle.hopper.specs.Legs.LegsMerge.{mergeTold}
-use Rattle.hopper.specs.FootMoves.MovesEntries.{moveTold}
+use Rattle.commands.specs.declared.Time.{Time}
 
-abbrev point : Float → Float → Float → Point
-point a b c = record { x = a; y = b; z = c }
+-- (a, b, 0), and six feet at one point
+abbrev at : Float → Float → Point
+at a b = record { x = a; y = b; z = over 0 1 }
 
--- six feet at one point
 abbrev all : Point → Feet
 all p = feet (λ l. p)
 
-abbrev start : Point
-start = point (over 0 1) (over 0 1) (over 0 1)
+abbrev zero : Float
+zero = over 0 1
 
-abbrev quarter : Point
-quarter = point (over 1 4) (over 0 1) (over 0 1)
+abbrev start : Point
+start = at zero zero
 
 abbrev eighth : Point
-eighth = point (over 1 8) (over 0 1) (over 0 1)
+eighth = at (over 1 8) zero
+
+abbrev quarter : Point
+quarter = at (over 1 4) zero
+
+abbrev nanoseconds : ℕ → Time
+nanoseconds n = record { seconds = 0; nanoseconds = n }
 
 abbrev pub cases : List (Type 0)
 cases =
+    -- p1 (0,0,0) to (1/4,0,0), m 1/8: (1/8,0,0), moved
     (moveTold start quarter (over 1 8) ≡ given (1 ∷ []) (coordinates eighth))
+    -- p2 from there: target, moved
     ∷ (moveTold eighth quarter (over 1 8) ≡ given (1 ∷ []) (coordinates quarter))
+    -- p3 from there: not moved
     ∷ (moveTold quarter quarter (over 1 8) ≡ given (0 ∷ []) (coordinates quarter))
+    -- p4 x -0 to +0, rest equal: +0, not moved
+    ∷ (moveTold (at (minus 0 1) zero) start (over 1 8) ≡ given (0 ∷ []) (coordinates start))
+    -- p5 p1 with m 0: (0,0,0), moved
+    ∷ (moveTold start quarter zero ≡ given (1 ∷ []) (coordinates start))
+    -- p6 (0,0,0) to (3/8,1/2,0), m 5/8: one step
+    ∷ (moveTold start (at (over 3 8) (over 1 2)) (over 5 8) ≡ given (1 ∷ []) (coordinates (at (over 3 8) (over 1 2))))
+    -- p7 p1's walk: 2
+    ∷ Walk (over 1 8) start quarter 2
+    -- p8 mask 0 merges nothing, 63 all
+    ∷ (mergeTold (all start) (all quarter) 0 ≡ givenFeet (all start))
+    ∷ (mergeTold (all start) (all quarter) 63 ≡ givenFeet (all quarter))
+    -- p9 mask of LRL_TRIPOD, two values: refusal 5
+    ∷ (updateTold (all start) (quarter ∷ quarter ∷ []) 21 ≡ refused 5)
+    -- p10 period 1/2 s, elapsed 1/4 s: progress 1; even pace: 1/2
+    ∷ (timedProgressTold (nanoseconds 250000000) (nanoseconds 500000000) ≡ given [] (over 1 1 ∷ []))
+    ∷ (evenProgressTold (nanoseconds 250000000) (nanoseconds 500000000) ≡ given [] (over 1 2 ∷ []))
+    -- p11 nanoseconds 999,999,999 taken, 10^9: refusal 3
+    ∷ (evenProgressTold (nanoseconds 999999999) (nanoseconds 500000000) ≡ given [] (over 2 1 ∷ []))
+    ∷ (evenProgressTold (nanoseconds (10 ^ 9)) (nanoseconds 500000000) ≡ refused 3)
+    -- p12 NaN point with mask 64: refusal 1
+    ∷ (mergeTold (all (at nan zero)) (all start) 64 ≡ refused 1)
     ∷ []
 
 -- every case of a list holds
