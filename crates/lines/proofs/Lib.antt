@@ -1,12 +1,12 @@
 mod Flags
 mod Reading
-mod Decimal
-mod Stores
+pub mod Decimal
+pub mod Stores
 mod Numerals
 mod Places
 mod Values
-mod Exact
-mod Counts
+pub mod Exact
+pub mod Counts
 mod Rows
 pub mod Records
 pub mod Listings
