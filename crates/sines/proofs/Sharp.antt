@@ -271,3 +271,12 @@ sine-negative x h g = simp (le-leb 2147483648 (toBits binary32 x) g) at (sine-el
 
 pub sine-positive : (x : Float) → 964689920 ≤ bare x → toBits binary32 x < 2147483648 → centred (fixedSine (fixed (bare x))) ≡ insideSine x
 sine-positive x h g = simp (lt-leb 2147483648 (toBits binary32 x) g) at (sine-else x h)
+
+-- ---- outside the table
+pub sine-outside : (x : Float) → permits sineArgument x ≡ false → sine x ≡ fin false 0 (pos 0)
+unfolding sine
+sine-outside x h = ap (λ (b : Bool). cond b (insideSine x) (fin false 0 (pos 0))) h
+
+pub cosine-outside : (x : Float) → permits sineArgument x ≡ false → cosine x ≡ fin false 0 (pos 0)
+unfolding cosine
+cosine-outside x h = ap (λ (b : Bool). cond b (insideCosine x) (fin false 0 (pos 0))) h
