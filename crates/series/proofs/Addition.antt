@@ -7,10 +7,12 @@ use mathlib.Core.List.{List, [], _∷_}
 use native.Mathlib.Nat.{mul-assoc}
 use native.Mathlib.Omega.{arith}
 use lib.Dec.{T, leb, leb→le, lit<}
+use lib.ListN.{length}
 use Rattle.series.specs.Series.{factorial}
 use Rattle.series.specs.Working.{pw, ev, sinP, sinM, cosP, cosM, denominator}
 use Rattle.series.proofs.Polynomials.{eval, spread, ev-spread}
 use Rattle.series.proofs.Bivariate.{eval2, add2, scale2, outer, joined, less2, eval2-add, eval2-scale, eval2-outer, eval2-joined, apart-le}
+use Rattle.series.proofs.Scale.{ev-widen}
 use Rattle.series.proofs.Tables.{both, both-l, both-r}
 
 -- the sums at n / 2 ^ 35, times their denominator
@@ -29,6 +31,22 @@ fcm n = ev 34359738368 n cosM
 unfoldable pub FD : ℕ
 unfolding denominator factorial
 FD = denominator 34359738368
+
+-- at j eighths they are those at j / 8, K times as large
+unfoldable pub K : ℕ
+K = 4294967296 ^ 63
+
+pub FD-eighths : FD ≡ K * denominator 8
+unfolding FD K denominator factorial
+FD-eighths = refl
+
+pub at-eighths : (j : ℕ) (p : List ℕ) → length p ≡ 64 → ev 34359738368 (4294967296 * j) p ≡ K * ev 8 j p
+unfolding K
+at-eighths j p h = ev-widen 4294967296 8 j p h (lit< tt)
+
+pub FD-pos : 0 < FD
+unfolding FD denominator factorial
+FD-pos = lit< {m = 0} {n = denominator 34359738368} tt
 
 -- the four lists, with the powers of the denominator in them
 unfoldable pub sinP' : List ℕ

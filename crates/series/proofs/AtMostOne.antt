@@ -13,8 +13,7 @@ use Rattle.series.specs.Working.{pw, ev, sinP, sinM, cosP, cosM, denomin
 use Rattle.series.proofs.Order.{here-or-on, squares}
 use Rattle.series.proofs.Tables.{every, at}
 use Rattle.series.proofs.Polynomials.{eval, addP, scale, mulP, below, poly-le, ev-add, ev-scale, ev-mul}
-use Rattle.series.proofs.Scale.{ev-widen}
-use Rattle.series.proofs.Addition.{fsp, fsm, fcp, fcm, FD, sinP', sinM', cosP', cosM', sp-is, sm-is, cp-is, cm-is, Added, sine-sum, cosine-sum}
+use Rattle.series.proofs.Addition.{fsp, fsm, fcp, fcm, FD, FD-pos, FD-eighths, K, at-eighths, sinP', sinM', cosP', cosM', sp-is, sm-is, cp-is, cm-is, Added, sine-sum, cosine-sum}
 
 -- ---- (p - m)^2 + (p' - m')^2 is at most D^2, but for one part in k
 pub Circle : ℕ → ℕ → ℕ → ℕ → ℕ → ℕ → Type 0
@@ -84,17 +83,6 @@ all-eighths : T (every at-eighth 0 (replicate 129 0))
 unfolding at-eighth on ev pw sinP sinM cosP cosM denominator factorial
 all-eighths = tt
 
-unfoldable K : ℕ
-K = 4294967296 ^ 63
-
-FD-is : FD ≡ K * denominator 8
-unfolding FD K denominator factorial
-FD-is = refl
-
-wide : (j : ℕ) (p : List ℕ) → length p ≡ 64 → ev 34359738368 (4294967296 * j) p ≡ K * ev 8 j p
-unfolding K
-wide j p h = ev-widen 4294967296 8 j p h (lit< tt)
-
 circle-widen : (k K D p m p' m' : ℕ) → Circle k D p m p' m' → Circle k (K * D) (K * p) (K * m) (K * p') (K * m')
 unfolding Circle
 circle-widen k K D p m p' m' h =
@@ -122,7 +110,7 @@ eighth j h = leb→le _ _ (at at-eighth (replicate 129 0) all-eighths j h)
 
 place-circle : (j : ℕ) → j < 129 → Circle 68719476736 FD (fcp (4294967296 * j)) (fcm (4294967296 * j)) (fsp (4294967296 * j)) (fsm (4294967296 * j))
 place-circle j h =
-    rw (FD-is, wide j cosP (unfold cosP in refl), wide j cosM (unfold cosM in refl), wide j sinP (unfold sinP in refl), wide j sinM (unfold sinM in refl))
+    rw (FD-eighths, at-eighths j cosP (unfold cosP in refl), at-eighths j cosM (unfold cosM in refl), at-eighths j sinP (unfold sinP in refl), at-eighths j sinM (unfold sinM in refl))
     (circle-widen 68719476736 K (denominator 8) (ev 8 j cosP) (ev 8 j cosM) (ev 8 j sinP) (ev 8 j sinM) (eighth j h))
 
 -- ---- how far apart two numbers are
@@ -216,10 +204,6 @@ module _ (a b : ℕ) (ca : Circle 68719476736 FD (fcp a) (fcm a) (fsp a) (fsm a)
       (circle-dist 68719476736 FD (fcp a) (fcm a) (fsp a) (fsm a) ca) (circle-dist 1099511627776 FD (fcp b) (fcm b) (fsp b) (fsm b) cb)
 
 -- ---- p - m is at most 1, nearly
-pub FD-pos : 0 < FD
-unfolding FD denominator factorial
-FD-pos = lit< {m = 0} {n = denominator 34359738368} tt
-
 pub record AtMostOne (p m : ℕ) : Type 0 where
   pub up : 34359738368 * p ≤ 34359738368 * m + 34359738369 * FD
   pub down : 34359738368 * m ≤ 34359738368 * p + 34359738369 * FD

@@ -3,8 +3,8 @@ pub mod Fractions
 pub mod Tables
 pub mod Polynomials
 pub mod Bivariate
-pub mod Addition
 pub mod Scale
+pub mod Addition
 pub mod Literal
 pub mod Parity
 pub mod NearestTables

@@ -14,8 +14,7 @@ use Rattle.series.specs.Working.{pw, ev, sinP, sinM, cosP, cosM, denominator}
 use Rattle.series.proofs.Tables.{both, both-l, both-r, every, at}
 use Rattle.series.proofs.Polynomials.{eval, spread, ev-spread}
 use Rattle.series.proofs.NearestTables.{nearest, nearest-le, sineTable, cosineTable, sine-nearest, cosine-nearest}
-use Rattle.series.proofs.Scale.{ev-widen}
-use Rattle.series.proofs.Addition.{fsp, fsm, fcp, fcm, FD}
+use Rattle.series.proofs.Addition.{fsp, fsm, fcp, fcm, FD, FD-eighths, K, at-eighths}
 use Rattle.sines.specs.How.{sineEntry, cosineEntry, pairEntry}
 
 -- f i, f (i + 1), .., so many
@@ -63,24 +62,12 @@ pub record Entry (D s p m : ℕ) : Type 0 where
   pub high : 2 * (1073741824 * p + 1073741824 * D) ≤ 2 * (s * D + 1073741824 * m) + D
   pub small : s ≤ 2147483648
 
--- the ratio of the denominators 2 ^ 35 and 8
-unfoldable K : ℕ
-K = 4294967296 ^ 63
-
-FD-is : FD ≡ K * denominator 8
-unfolding FD K denominator factorial
-FD-is = refl
-
 grown : (k s p m d p' m' d' : ℕ) → p' ≡ k * p → m' ≡ k * m → d' ≡ k * d → s ≤ 2147483648
     → (2 * (s * d + 1073741824 * m) ≤ 2 * (1073741824 * p + 1073741824 * d) + d) × (2 * (1073741824 * p + 1073741824 * d) ≤ 2 * (s * d + 1073741824 * m) + d) → Entry d' s p' m'
 grown k s p m d p' m' d' ep em ed few h =
     let l = mul-le-mul-left k (h .0) in
     let g = mul-le-mul-left k (h .1) in
     record { low = rw (ep, em, ed) (omega arith); high = rw (ep, em, ed) (omega arith); small = few }
-
-wide : (j : ℕ) (p : List ℕ) → length p ≡ 64 → ev 34359738368 (4294967296 * j) p ≡ K * ev 8 j p
-unfolding K
-wide j p h = ev-widen 4294967296 8 j p h (lit< tt)
 
 few : ℕ → ℕ → Bool
 few k e = leb e 2147483648
@@ -121,7 +108,7 @@ module _ (j : ℕ) (h : j < 129) where
   pub sine-entry : Entry FD (sineEntry j) (fsp (4294967296 * j)) (fsm (4294967296 * j))
   unfolding sineTable
   sine-entry =
-      grown K (sineEntry j) (ev 8 j sinP) (ev 8 j sinM) (denominator 8) _ _ FD (wide j sinP (unfold sinP in refl)) (wide j sinM (unfold sinM in refl)) FD-is sine-small
+      grown K (sineEntry j) (ev 8 j sinP) (ev 8 j sinM) (denominator 8) _ _ FD (at-eighths j sinP (unfold sinP in refl)) (at-eighths j sinM (unfold sinM in refl)) FD-eighths sine-small
       (rw (sine-at j h, mul-one j, ev-spread 8 sinP j, ev-spread 8 sinM j) at
       (nearest-le (spread 8 sinP) (spread 8 sinM) (denominator 8) 1073741824 1073741824 1 j (getD sines j 0)
       (at (nearest (spread 8 sinP) (spread 8 sinM) (denominator 8) 1073741824 1073741824 1) sines sines-pass j (subst (λ (n : ℕ). j < n) (sym many-sines) h))))
@@ -129,7 +116,7 @@ module _ (j : ℕ) (h : j < 129) where
   pub cosine-entry : Entry FD (cosineEntry j) (fcp (4294967296 * j)) (fcm (4294967296 * j))
   unfolding cosineTable
   cosine-entry =
-      grown K (cosineEntry j) (ev 8 j cosP) (ev 8 j cosM) (denominator 8) _ _ FD (wide j cosP (unfold cosP in refl)) (wide j cosM (unfold cosM in refl)) FD-is cosine-small
+      grown K (cosineEntry j) (ev 8 j cosP) (ev 8 j cosM) (denominator 8) _ _ FD (at-eighths j cosP (unfold cosP in refl)) (at-eighths j cosM (unfold cosM in refl)) FD-eighths cosine-small
       (rw (cosine-at j h, mul-one j, ev-spread 8 cosP j, ev-spread 8 cosM j) at
       (nearest-le (spread 8 cosP) (spread 8 cosM) (denominator 8) 1073741824 1073741824 1 j (getD cosines j 0)
       (at (nearest (spread 8 cosP) (spread 8 cosM) (denominator 8) 1073741824 1073741824 1) cosines cosines-pass j (subst (λ (n : ℕ). j < n) (sym many-cosines) h))))

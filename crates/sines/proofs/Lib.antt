@@ -2,10 +2,10 @@ mod Patterns
 mod Values
 mod Centred
 mod Small
-pub mod Rest
+mod Rest
 pub mod Entries
-pub mod Turn
-pub mod Whole
+mod Turn
+mod Whole
 pub mod Sharp
 pub mod Bands
 mod Refusals

@@ -1,12 +1,12 @@
 -- Ours are within 5 / 2 ^ 27 of document 01's sums, 0.625 of 2 ^ -24, at every permitted f32; and what the definitions give in each case. Assumes nothing.
-use Prim.Native.Nat.{ℕ, zero, suc, _+_, _-_, _*_, _^_, _≤_, _<_}
+use Prim.Native.Nat.{ℕ, zero, suc, _+_, _-_, _*_, _^_, _≤_, _<_, zero-le}
 use mathlib.Core.Path.{_≡_, refl, sym, ap, ap₂, _∙_, subst, subst₂}
 use mathlib.Core.Logic.{_⊎_, inl, inr}
 use mathlib.Core.Bool.{Bool, true, false, not, cond}
-use native.Mathlib.Nat.{le-of-lt, mul-assoc, mul-comm, mul-le-mul-left, le-of-mul-le-mul-left}
+use native.Mathlib.Nat.{le-trans, le-of-lt, mul-assoc, mul-comm, mul-le-mul-left, le-of-mul-le-mul-left}
 use native.Mathlib.Omega.{arith}
 use borrow.Author.Tests.{lt-ltb, le-ltb, le-leb, lt-leb}
-use lib.Dec.{T, ltb, lit<}
+use lib.Dec.{T, ltb, lit<, lit≤}
 use lib.Pow.{pow-pos}
 use lib.IntN.{ℤ, pos, negsuc}
 use lib.Ieee.{Float, nan, inf, fin, binary32, up, down, fits, neg, toBits}
@@ -14,10 +14,10 @@ use lib.Ieee.Fits.{down-pos}
 use lib.Ieee.Bits.{is-true}
 use Rattle.numbers.specs.Door.{finite, permits}
 use Rattle.numbers.specs.Limits.{sineArgument}
-use Rattle.series.specs.Fractions.{Fraction, _÷_, whole, signed, value, negative, _≋_, Within}
+use Rattle.series.specs.Fractions.{Fraction, _÷_, whole, signed, value, negative, _≋_, _≼_, Within}
 use Rattle.series.specs.Series.{S, C, factorial}
 use Rattle.series.specs.Working.{denominator}
-use Rattle.series.proofs.Fractions.{same-sym, same-trans, negative-same, within-same, within-negative}
+use Rattle.series.proofs.Fractions.{same-sym, same-trans, negative-same, le-same, within-same, within-negative}
 use Rattle.series.proofs.Literal.{S-is, C-is, denominator-pos}
 use Rattle.series.proofs.Parity.{difference, S-odd, C-even, S-same, C-same, S-over, C-over}
 use Rattle.series.proofs.Order.{here-or-on}
@@ -151,6 +151,21 @@ turned-finite : (s : Bool) (z : Float) → T (finite z) → T (finite (cond s (n
 turned-finite true z h = finite-neg z h
 turned-finite false z h = h
 
+-- ---- from -1 to 1
+pub record FromMinusOneToOne (r : Float) : Type 0 where
+  pub low : negative (whole 1) ≼ value r
+  pub high : value r ≼ whole 1
+
+bounded : (s : Bool) (p m d : ℕ) (r : Float) → 0 < d → p ≤ d + m → m ≤ d + p → value r ≋ signed s (difference p m d) → FromMinusOneToOne r
+bounded true p m d r gt h k e = record {
+  low = le-same (negative (whole 1)) (negative (whole 1)) (difference m p d) (value r) (lit< tt) gt refl (same-sym (value r) (difference m p d) e) (omega arith);
+  high = le-same (difference m p d) (value r) (whole 1) (whole 1) gt (lit< tt) (same-sym (value r) (difference m p d) e) refl (omega arith);
+}
+bounded false p m d r gt h k e = record {
+  low = le-same (negative (whole 1)) (negative (whole 1)) (difference p m d) (value r) (lit< tt) gt refl (same-sym (value r) (difference p m d) e) (omega arith);
+  high = le-same (difference p m d) (value r) (whole 1) (whole 1) gt (lit< tt) (same-sym (value r) (difference p m d) e) refl (omega arith);
+}
+
 module _ (x : Float) (f : T (fits binary32 x)) (p : T (permits sineArgument x)) where
   abbrev v : ℕ
   v = argument x f p .units
@@ -186,6 +201,42 @@ module _ (x : Float) (f : T (fits binary32 x)) (p : T (permits sineArgument x)) 
             (c .1, cosine-from (isNegative x) x (centred w) (difference w 20971520 16777216) (n x v H ÷ 34359738368) (lit< tt) (lit< tt) (in-fixed x v H h) (c .0) (fixed-cosine-within (n x v H) (n-le x v H h)))
       ]
 
+  inside-sine-one : FromMinusOneToOne (insideSine x)
+  inside-sine-one =
+      elim (here-or-on (bare x) 964689920) [
+        | inl h ↦ subst FromMinusOneToOne (sine-tiny x h) (bounded (isNegative x) v 0 (2 ^ 149) x (pow-pos 149) (le-trans (H .small h) (lit≤ {m = 2 ^ 137} {n = 2 ^ 149} tt)) zero-le (in-units x v H))
+        | inr h ↦
+            let w = fixedSine (n x v H) in
+            let r = sine-result (n x v H) (n-le x v H h) in
+            let c = centred-value w (r .least) (r .most) in
+            subst FromMinusOneToOne (sine-else x h)
+            (bounded (isNegative x) w 20971520 16777216 (cond (isNegative x) (neg (centred w)) (centred w)) (lit< tt) (most w (r .most)) (least w (r .least))
+            (turned-value (isNegative x) (centred w) (difference w 20971520 16777216) (c .0)))
+      ]
+    where
+      most : (w : ℕ) → w ≤ 37748736 → w ≤ 16777216 + 20971520
+      most w h = omega arith
+
+      least : (w : ℕ) → 4194304 ≤ w → 20971520 ≤ 16777216 + w
+      least w h = omega arith
+
+  inside-cosine-one : FromMinusOneToOne (insideCosine x)
+  inside-cosine-one =
+      elim (here-or-on (bare x) 964689920) [
+        | inl h ↦ subst FromMinusOneToOne (cosine-tiny x h) (bounded false 1 0 1 (fin false 1 (pos 0)) (lit< tt) (omega arith) (omega arith) refl)
+        | inr h ↦
+            let w = fixedCosine (n x v H) in
+            let r = cosine-result (n x v H) (n-le x v H h) in
+            let c = centred-value w (r .least) (r .most) in
+            subst FromMinusOneToOne (cosine-else x h) (bounded false w 20971520 16777216 (centred w) (lit< tt) (most w (r .most)) (least w (r .least)) (c .0))
+      ]
+    where
+      most : (w : ℕ) → w ≤ 37748736 → w ≤ 16777216 + 20971520
+      most w h = omega arith
+
+      least : (w : ℕ) → 4194304 ≤ w → 20971520 ≤ 16777216 + w
+      least w h = omega arith
+
   -- what the cores give where the argument is permitted
   pub sine-is : insideSine x ≡ sine x
   unfolding sine
@@ -207,9 +258,25 @@ module _ (x : Float) (f : T (fits binary32 x)) (p : T (permits sineArgument x)) 
   pub cosine-sharp : Within sharp (value (cosine x)) (C (value x))
   cosine-sharp = subst (λ (r : Float). Within sharp (value r) (C (value x))) cosine-is (inside-cosine .1)
 
+  -- |sine x| and |cosine x| are at most 1
+  pub sine-one : FromMinusOneToOne (sine x)
+  sine-one = subst FromMinusOneToOne sine-is inside-sine-one
+
+  pub cosine-one : FromMinusOneToOne (cosine x)
+  cosine-one = subst FromMinusOneToOne cosine-is inside-cosine-one
+
 -- ---- the two signs
 pub sine-negative : (x : Float) → 964689920 ≤ bare x → 2147483648 ≤ toBits binary32 x → neg (centred (fixedSine (fixed (bare x)))) ≡ insideSine x
 sine-negative x h g = simp (le-leb 2147483648 (toBits binary32 x) g) at (sine-else x h)
 
 pub sine-positive : (x : Float) → 964689920 ≤ bare x → toBits binary32 x < 2147483648 → centred (fixedSine (fixed (bare x))) ≡ insideSine x
 sine-positive x h g = simp (lt-leb 2147483648 (toBits binary32 x) g) at (sine-else x h)
+
+-- ---- outside the table
+pub sine-outside : (x : Float) → permits sineArgument x ≡ false → sine x ≡ fin false 0 (pos 0)
+unfolding sine
+sine-outside x h = ap (λ (b : Bool). cond b (insideSine x) (fin false 0 (pos 0))) h
+
+pub cosine-outside : (x : Float) → permits sineArgument x ≡ false → cosine x ≡ fin false 0 (pos 0)
+unfolding cosine
+cosine-outside x h = ap (λ (b : Bool). cond b (insideCosine x) (fin false 0 (pos 0))) h

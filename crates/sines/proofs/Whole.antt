@@ -6,8 +6,8 @@ use native.Mathlib.Omega.{arith}
 use lib.Dec.{lit<}
 use mathlib.Core.Logic.{_⊎_, inl, inr}
 use Rattle.series.proofs.Order.{here-or-on}
-use Rattle.series.proofs.Addition.{fsp, fsm, fcp, fcm, FD, Added, sine-sum, cosine-sum}
-use Rattle.series.proofs.AtMostOne.{AtMostOne, S-at-most-one, C-at-most-one, FD-pos}
+use Rattle.series.proofs.Addition.{fsp, fsm, fcp, fcm, FD, FD-pos, Added, sine-sum, cosine-sum}
+use Rattle.series.proofs.AtMostOne.{AtMostOne, S-at-most-one, C-at-most-one}
 use Rattle.sines.specs.How.{sineEntry, cosineEntry, place, rest, square, even, odd, sineSum, cosineSum, fixedSine, fixedCosine}
 use Rattle.sines.proofs.Rest.{Near, even-near, odd-near, even-le, odd-le}
 use Rattle.sines.proofs.Entries.{Entry, sine-entry, cosine-entry, sine-small, cosine-small}

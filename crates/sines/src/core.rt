@@ -35,7 +35,7 @@ pub fn cosine(x: f32) -> f32
 }
 
 // Below 2^-12 (pattern 0x3980_0000) the sine is x itself, nearer than 2^-38. S is odd.
-fn inside_sine(x: f32) -> f32
+pub(crate) fn inside_sine(x: f32) -> f32
     requires { ⌜ T (permits sineArgument x) ⌝ }
     ensures { λ r. ⌜ r ≡ insideSine x ⌝ }
 {
@@ -49,7 +49,7 @@ fn inside_sine(x: f32) -> f32
 }
 
 // Below 2^-12 the cosine is 1, nearer than 2^-25. C is even.
-fn inside_cosine(x: f32) -> f32
+pub(crate) fn inside_cosine(x: f32) -> f32
     requires { ⌜ T (permits sineArgument x) ⌝ }
     ensures { λ r. ⌜ r ≡ insideCosine x ⌝ }
 {

@@ -29,7 +29,7 @@ pub fn sine(x: f32) -> Answer
 {
     let n = refused(x);
     if n == 0 {
-        Answer::Value(core::sine(x))
+        Answer::Value(core::inside_sine(x))
     } else {
         Answer::Refused(n)
     }
@@ -42,7 +42,7 @@ pub fn cosine(x: f32) -> Answer
 {
     let n = refused(x);
     if n == 0 {
-        Answer::Value(core::cosine(x))
+        Answer::Value(core::inside_cosine(x))
     } else {
         Answer::Refused(n)
     }

@@ -4,13 +4,20 @@ use borrow.Author.Tests.{eq-eqb, ne-eqb}
 use mathlib.Core.Path.{_≡_, sym, _∙_, subst}
 use Prim.Native.Nat.{ℕ}
 use native.Mathlib.Omega.{arith}
-use lib.Ieee.{Float}
-use Rattle.numbers.specs.declared.Answer.{Answer}
+use lib.Dec.{T}
+use lib.Ieee.{Float, binary32, fits}
 use Rattle.numbers.specs.declared.Answer.the-variants.{Value, Refused}
 use Rattle.sines.specs.Bands.{CosineOf}
+use Rattle.sines.specs.How.{cosine}
+use Rattle.sines.proofs.Sharp.{cosine-is}
+use Rattle.sines.proofs.Bands.{cosine-band}
 use Rattle.sines.proofs.Refusals.{taken-permitted}
 use Rattle.sines.proofs.cosine.Statement.{statement}
 use Rattle.sines.proofs.cosine.Tie as tie
+
+-- what owning an `f32` tells: the format holds it
+held : (c : tie.Start) → T (fits binary32 (c .args .x))
+held c = subst T (sym (c .good .0 .1)) tt
 
 same-value : (x y : Float) → Value x ≡ Value y → x ≡ y
 same-value x y h = cc
@@ -21,15 +28,17 @@ never n y h = cc
 refused-requires : tie.Need-refused-requires
 refused-requires c κs = search needs
 
-cosine-requires : tie.Need-cosine-requires
-cosine-requires c κs = search needs
+inside-cosine-requires : tie.Need-inside-cosine-requires
+inside-cosine-requires c κs = taken-permitted (c .before .before .args .x) (sym (c .before .refused .ensures) ∙ c .if1 .taken)
 
 returns : tie.Need-returns
 returns c =
-    let x = c .before .before .before .args .x in (
-      simp (c .cosine .ensures .0, ← c .before .before .refused .ensures, eq-eqb _ 0 (c .before .if1 .taken)),
-      λ (y : Float) (e : Value (c .cosine .result) ≡ Value y).
-          subst (λ (r : Float). CosineOf x r) (same-value (c .cosine .result) y e) (c .cosine .ensures .1 (taken-permitted x (sym (c .before .before .refused .ensures) ∙ c .before .if1 .taken))),
+    let s = c .before .before .before in
+    let x = s .args .x in
+    let p = inside-cosine-requires (c .before) tt in
+    let e : c .inside-cosine .result ≡ cosine x = c .inside-cosine .ensures ∙ cosine-is x (held s) p in (
+      simp (e, ← c .before .before .refused .ensures, eq-eqb _ 0 (c .before .if1 .taken)),
+      λ (y : Float) (v : Value (c .inside-cosine .result) ≡ Value y). subst (λ (r : Float). CosineOf x r) (sym e ∙ same-value (c .inside-cosine .result) y v) (cosine-band x (held s) p),
     )
 
 returns-2 : tie.Need-returns-2
@@ -39,4 +48,4 @@ returns-2 c = (
 )
 
 pub cosine-spec : {M : Type 1} → statement M
-cosine-spec = tie.close (tie.spec refused-requires cosine-requires returns returns-2)
+cosine-spec = tie.close (tie.spec refused-requires inside-cosine-requires returns returns-2)

@@ -4,13 +4,20 @@ use borrow.Author.Tests.{eq-eqb, ne-eqb}
 use mathlib.Core.Path.{_≡_, sym, _∙_, subst}
 use Prim.Native.Nat.{ℕ}
 use native.Mathlib.Omega.{arith}
-use lib.Ieee.{Float}
-use Rattle.numbers.specs.declared.Answer.{Answer}
+use lib.Dec.{T}
+use lib.Ieee.{Float, binary32, fits}
 use Rattle.numbers.specs.declared.Answer.the-variants.{Value, Refused}
 use Rattle.sines.specs.Bands.{SineOf}
+use Rattle.sines.specs.How.{sine}
+use Rattle.sines.proofs.Sharp.{sine-is}
+use Rattle.sines.proofs.Bands.{sine-band}
 use Rattle.sines.proofs.Refusals.{taken-permitted}
 use Rattle.sines.proofs.sine.Statement.{statement}
 use Rattle.sines.proofs.sine.Tie as tie
+
+-- what owning an `f32` tells: the format holds it
+held : (c : tie.Start) → T (fits binary32 (c .args .x))
+held c = subst T (sym (c .good .0 .1)) tt
 
 same-value : (x y : Float) → Value x ≡ Value y → x ≡ y
 same-value x y h = cc
@@ -21,15 +28,17 @@ never n y h = cc
 refused-requires : tie.Need-refused-requires
 refused-requires c κs = search needs
 
-sine-requires : tie.Need-sine-requires
-sine-requires c κs = search needs
+inside-sine-requires : tie.Need-inside-sine-requires
+inside-sine-requires c κs = taken-permitted (c .before .before .args .x) (sym (c .before .refused .ensures) ∙ c .if1 .taken)
 
 returns : tie.Need-returns
 returns c =
-    let x = c .before .before .before .args .x in (
-      simp (c .sine .ensures .0, ← c .before .before .refused .ensures, eq-eqb _ 0 (c .before .if1 .taken)),
-      λ (y : Float) (e : Value (c .sine .result) ≡ Value y).
-          subst (λ (r : Float). SineOf x r) (same-value (c .sine .result) y e) (c .sine .ensures .1 (taken-permitted x (sym (c .before .before .refused .ensures) ∙ c .before .if1 .taken))),
+    let s = c .before .before .before in
+    let x = s .args .x in
+    let p = inside-sine-requires (c .before) tt in
+    let e : c .inside-sine .result ≡ sine x = c .inside-sine .ensures ∙ sine-is x (held s) p in (
+      simp (e, ← c .before .before .refused .ensures, eq-eqb _ 0 (c .before .if1 .taken)),
+      λ (y : Float) (v : Value (c .inside-sine .result) ≡ Value y). subst (λ (r : Float). SineOf x r) (sym e ∙ same-value (c .inside-sine .result) y v) (sine-band x (held s) p),
     )
 
 returns-2 : tie.Need-returns-2
@@ -39,4 +48,4 @@ returns-2 c = (
 )
 
 pub sine-spec : {M : Type 1} → statement M
-sine-spec = tie.close (tie.spec refused-requires sine-requires returns returns-2)
+sine-spec = tie.close (tie.spec refused-requires inside-sine-requires returns returns-2)
