@@ -203,7 +203,7 @@ pub fn step(s: &[u8]) -> Out {
 }
 
 // What a step by time is asked for.
-struct Timing {
+struct StepAsked {
     start: Feet,
     last: Feet,
     target: Feet,
@@ -214,7 +214,7 @@ struct Timing {
 }
 
 // start, last, target, height, descent, tripod, aggressive, elapsed, period.
-fn timing(s: &[u8]) -> Timing {
+fn timing(s: &[u8]) -> StepAsked {
     let start = fields::feet(s, fields::first(s));
     let last = fields::feet(s, start.next);
     let target = fields::feet(s, last.next);
@@ -230,7 +230,7 @@ fn timing(s: &[u8]) -> Timing {
     let lifted = t.value;
     let since = elapsed.value;
     let whole = period.value;
-    Timing {
+    StepAsked {
         start: from,
         last: now,
         target: to,
