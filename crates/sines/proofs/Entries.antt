@@ -1,5 +1,5 @@
 -- Every entry of the tables is the whole number nearest to 2 ^ 30 (1 + S (j / 8)), or C, by the test of the room `series`; and what that says in units of 2 ^ -35. Assumes nothing.
-use Prim.Native.Nat.{ℕ, zero, suc, _+_, _*_, _^_, _≤_, _<_}
+use Prim.Native.Nat.{ℕ, zero, suc, _+_, _*_, _/_, _%_, _^_, _≤_, _<_}
 use mathlib.Core.Path.{_≡_, refl, sym, ap, ap₂, _∙_, subst, subst₂}
 use mathlib.Core.Bool.{Bool, true, false}
 use mathlib.Core.List.{List, [], _∷_}
@@ -129,3 +129,22 @@ right e k = T (eqb e (pairEntry k))
 pub arm : (k : ℕ) {e j : ℕ} → right e k → j ≡ k → e ≡ pairEntry j
 unfolding right
 arm k {e} {j} t h = subst (λ (i : ℕ). e ≡ pairEntry i) (sym h) (eqb→eq e (pairEntry k) t)
+
+-- ---- the two halves of an entry
+halves : (t s c : ℕ) → t ≡ s * 4294967296 + c → c ≤ 2147483648 → (t / 4294967296 ≡ s) × (t % 4294967296 ≡ c)
+halves t s c e h = (omega arith, omega arith)
+
+module _ (j t : ℕ) (h : j < 129) (e : t ≡ pairEntry j) where
+  pub high-half : t / 4294967296 ≡ sineEntry j
+  unfolding pairEntry
+  high-half = halves t (sineEntry j) (cosineEntry j) e (cosine-small j h) .0
+
+  pub low-half : t % 4294967296 ≡ cosineEntry j
+  unfolding pairEntry
+  low-half = halves t (sineEntry j) (cosineEntry j) e (cosine-small j h) .1
+
+  pub high-small : t / 4294967296 ≤ 2147483648
+  high-small = subst (λ (n : ℕ). n ≤ 2147483648) (sym high-half) (sine-small j h)
+
+  pub low-small : t % 4294967296 ≤ 2147483648
+  low-small = subst (λ (n : ℕ). n ≤ 2147483648) (sym low-half) (cosine-small j h)

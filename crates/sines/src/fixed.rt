@@ -66,10 +66,12 @@ pub fn sine(x: u64) -> u64
     requires { ⌜ x ≤ 549755813888 ⌝ }
     ensures { λ w. ⌜ w ≡ fixedSine x ⌝ }
 {
-    let p = table::pair_at(x / 0x1_0000_0000);
+    let both = table::entry(x / 0x1_0000_0000);
+    let s = both / 0x1_0000_0000;
+    let c = both % 0x1_0000_0000;
     let r = x % 0x1_0000_0000;
     let q = square_of(r);
-    sine_sum(p.sine, p.cosine, even_part(q), odd_part(r, q))
+    sine_sum(s, c, even_part(q), odd_part(r, q))
 }
 
 // Cosine, likewise.
@@ -77,10 +79,12 @@ pub fn cosine(x: u64) -> u64
     requires { ⌜ x ≤ 549755813888 ⌝ }
     ensures { λ w. ⌜ w ≡ fixedCosine x ⌝ }
 {
-    let p = table::pair_at(x / 0x1_0000_0000);
+    let both = table::entry(x / 0x1_0000_0000);
+    let s = both / 0x1_0000_0000;
+    let c = both % 0x1_0000_0000;
     let r = x % 0x1_0000_0000;
     let q = square_of(r);
-    cosine_sum(p.sine, p.cosine, even_part(q), odd_part(r, q))
+    cosine_sum(s, c, even_part(q), odd_part(r, q))
 }
 
 // The f32 of a number in units of 2^-24, plus 5 * 2^22.

@@ -2,29 +2,11 @@
 // low ones, for j from 0 to 128, each to the nearest whole number. Made by tools/sine_table.py; the
 // contract of `entry` holds every arm to that rule.
 ghost use mathlib.Core.Path.{_≡_};
-ghost use Prim.Native.Nat.{_<_, _≤_};
-ghost use Rattle.sines.specs.How.{pairEntry, sineEntry, cosineEntry};
+ghost use Prim.Native.Nat.{_<_};
+ghost use Rattle.sines.specs.How.{pairEntry};
 
-// A sine and a cosine in units of 2^-30, each plus 1.
-pub struct Pair {
-    pub sine: u64,
-    pub cosine: u64,
-}
-
-// Sine and cosine of j eighths.
-pub fn pair_at(j: u64) -> Pair
-    requires { ⌜ j < 129 ⌝ }
-    ensures { λ r. ⌜ (r .sine ≡ sineEntry j) × (r .cosine ≡ cosineEntry j) × (r .sine ≤ 2147483648) × (r .cosine ≤ 2147483648) ⌝ }
-{
-    let both = entry(j);
-    Pair {
-        sine: both / 0x1_0000_0000,
-        cosine: both % 0x1_0000_0000,
-    }
-}
-
-// Both in one number.
-fn entry(j: u64) -> u64
+// Sine and cosine of j eighths in one number.
+pub fn entry(j: u64) -> u64
     requires { ⌜ j < 129 ⌝ }
     ensures { λ r. ⌜ r ≡ pairEntry j ⌝ }
 {
