@@ -1,13 +1,13 @@
 #!/usr/bin/env python3
-"""arc_table.py: writes the two tables of the room `arcs` as Rattle constants.
+"""arc_table.py: writes the two tables of the room `arcs`, as the arms of a Rattle `match`.
 
-    python3 tools/arc_table.py angles     crates/arcs/src/table.rt: ANGLES
-    python3 tools/arc_table.py seeds      crates/arcs/src/whole_root.rt: SEEDS
+    python3 tools/arc_table.py angles     the arms of `entry` in crates/arcs/src/table.rt
+    python3 tools/arc_table.py seeds      the arms of `seed` in crates/arcs/src/whole_root.rt
 
-ANGLES[k] is 2^30 times the angle of the direction (128, k), to the nearest whole number. The checker holds each entry to
+Angle k is 2^30 times the angle of the direction (128, k), to the nearest whole number. The checker holds each arm to
 `arcTangent k` (crates/arc_rows/specs/ArcTangent.antt), and that to the nearest-whole-number rule, both by computed tests.
-SEEDS[i] is 2^16 over the root of (i + 1/2) / 128, cut at 2^17. Nothing but its bound is proved of it: what starts from it
-is mended, so that a wrong entry costs time and no digit.
+Seed i is 2^16 over the root of (i + 1/2) / 128, to the nearest whole number. Nothing but its bound is proved of it: what
+starts from it is mended, so that a wrong arm costs time and no digit.
 Whole numbers only: nothing here is rounded by a float."""
 import sys
 from fractions import Fraction
@@ -37,18 +37,19 @@ def angles():
 
 def seeds():
     # the nearest whole number to sqrt(2^32 * 256 / (2 i + 1))
-    return [min(1 << 17, (isqrt(4 * (1 << 40) // (2 * i + 1)) + 1) // 2) for i in range(128)]
+    return {i: (isqrt(4 * (1 << 40) // (2 * i + 1)) + 1) // 2 for i in range(32, 128)}
 
 
-def constant(name, kind, values):
-    rows = ["    " + ", ".join(str(v) for v in values[i:i + 8]) + "," for i in range(0, len(values), 8)]
-    return "const %s: [%s; %d] = [\n%s\n];" % (name, kind, len(values), "\n".join(rows))
+def arms(values):
+    """One arm a line; the last value is the arm of all other numbers."""
+    last = max(values)
+    return "".join("        %s => %d,\n" % ("_" if k == last else k, values[k]) for k in sorted(values))
 
 
 if __name__ == "__main__":
     if sys.argv[1:] == ["angles"]:
-        print(constant("ANGLES", "u32", angles()))
+        print(arms(dict(enumerate(angles()))), end="")
     elif sys.argv[1:] == ["seeds"]:
-        print(constant("SEEDS", "u32", seeds()))
+        print("".join("        %d => %d,\n" % pair for pair in sorted(seeds().items())) + "        _ => %d," % (1 << 17))
     else:
         sys.exit(__doc__)

@@ -8,6 +8,8 @@ use Rattle.series.proofs.Grid.{spL, smL, cpL, cmL, D}
 use Rattle.series.proofs.Tables.{both}
 use Rattle.arc_rows.specs.ArcTangent.{arcTangent}
 
+-- The numerals are powers of two: 2147483648 is 2 ^ 31, 2305843009213693952 2 ^ 61, 2475880078570760549798248448 2 ^ 91, and what may be wrong is 2 ^ 68
+-- (295147905179352825856), 2 ^ 62 (4611686018427387904) or 2 ^ 63 (9223372036854775808) of D, so 2 ^ -23, 2 ^ -29 or 2 ^ -28. 8392832 is 2 ^ 23 + 4224.
 abbrev pub big : List ℕ → List ℕ
 big p = scale 2475880078570760549798248448 p
 

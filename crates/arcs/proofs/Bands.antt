@@ -11,7 +11,7 @@ use Rattle.numbers.specs.Limits.{arcCosineArgument}
 use Rattle.numbers.specs.Told.{choose}
 use Rattle.series.specs.Fractions.{Fraction, _÷_, _≋_}
 use Rattle.arcs.specs.How.{turned, insideArcCosine, arcCosine, finiteAtan2, atan2}
-use Rattle.arcs.specs.Wedges.{ArcCosine, ArcCosineOf, Atan2, Atan2Of}
+use Rattle.arcs.specs.Wedges.{e, ArcCosine, ArcCosineOf, Atan2, Atan2Of}
 use Rattle.arcs.proofs.ArcBand.{arc-rule}
 use Rattle.arcs.proofs.Atan2Band.{atan2-rule}
 
@@ -29,17 +29,17 @@ finite-turn y x h = chosen (finite y && finite x) (finiteAtan2 y x) (turned fals
 
 module _ (q : Float) (f : T (fits binary32 q)) (h : T (permits arcCosineArgument q)) where
   pub arc-cosine-band : ArcCosineOf q (arcCosine q)
-  arc-cosine-band = subst (λ (a : Float). ArcCosineOf q a) (sym (inside-is q h)) (arc-rule q f h (1 ÷ 2 ^ 18) 16 (omega arith) (omega arith) refl (lit< {m = 0} {n = 2 ^ 18} tt))
+  arc-cosine-band = subst (λ (a : Float). ArcCosineOf q a) (sym (inside-is q h)) (arc-rule q f h e 16 (omega arith) (omega arith) refl (lit< {m = 0} {n = e .over} tt))
 
   pub arc-cosine-sharp : ArcCosine (1 ÷ 2 ^ 20) q (arcCosine q)
   arc-cosine-sharp = subst (λ (a : Float). ArcCosine (1 ÷ 2 ^ 20) q a) (sym (inside-is q h)) (arc-rule q f h (1 ÷ 2 ^ 20) 4 (omega arith) (omega arith) refl (lit< {m = 0} {n = 2 ^ 20} tt))
 
 module _ (y x : Float) (fy : T (fits binary32 y)) (fx : T (fits binary32 x)) (h : T (finite y && finite x)) where
-  rule : (e : Fraction) (F : ℕ) → 4 ≤ F → F ≤ 16 → e ≋ (256 * F) ÷ 1073741824 → 0 < e .over → Atan2 e y x (atan2 y x)
-  rule e F i j k l = subst (λ (t : Float). Atan2 e y x t) (sym (finite-turn y x h)) (atan2-rule e F i j k l y x fy fx (and-l (finite y) (finite x) h) (and-r (finite y) (finite x) h))
+  rule : (w : Fraction) (F : ℕ) → 4 ≤ F → F ≤ 16 → w ≋ (256 * F) ÷ 1073741824 → 0 < w .over → Atan2 w y x (atan2 y x)
+  rule w F i j k l = subst (λ (t : Float). Atan2 w y x t) (sym (finite-turn y x h)) (atan2-rule w F i j k l y x fy fx (and-l (finite y) (finite x) h) (and-r (finite y) (finite x) h))
 
   pub atan2-band : Atan2Of y x (atan2 y x)
-  atan2-band = rule (1 ÷ 2 ^ 18) 16 (omega arith) (omega arith) refl (lit< {m = 0} {n = 2 ^ 18} tt)
+  atan2-band = rule e 16 (omega arith) (omega arith) refl (lit< {m = 0} {n = e .over} tt)
 
   pub atan2-sharp : Atan2 (1 ÷ 2 ^ 20) y x (atan2 y x)
   atan2-sharp = rule (1 ÷ 2 ^ 20) 4 (omega arith) (omega arith) refl (lit< {m = 0} {n = 2 ^ 20} tt)

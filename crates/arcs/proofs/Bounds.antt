@@ -39,6 +39,8 @@ pub record FromZero (r : Float) : Type 0 where
   pub least : T (le (fin false 0 (pos 0)) r)
   pub most : T (le r pi)
   pub units : Result binary32 r pi-units
+  -- P is below 4: what a room above that reckons in whole bounds needs
+  pub four : Result binary32 r (4 * unity)
 
 -- a result from -P to P
 pub record EitherWay (r : Float) : Type 0 where
@@ -47,6 +49,7 @@ pub record EitherWay (r : Float) : Type 0 where
   pub least : T (le (fin true 13176795 (negsuc 21)) r)
   pub most : T (le r pi)
   pub units : Result binary32 r pi-units
+  pub four : Result binary32 r (4 * unity)
 
 zero-part : Part binary32 (fin false 0 (pos 0)) 0 0
 zero-part = (refl, refl)
@@ -63,13 +66,23 @@ plus-turned A h = plus-part binary32 (turned false A) (A * 2 ^ 127) (turned-valu
 minus-turned : (A : ℕ) → A ≤ 13176795 → Part binary32 (turned true A) 0 (A * 2 ^ 127)
 minus-turned A h = minus-part binary32 (turned true A) (A * 2 ^ 127) (turned-value true A (few h))
 
+below-four : (r : Float) → Result binary32 r pi-units → Result binary32 r (4 * unity)
+below-four r u = record { p = u .p; n = u .n; part = u .part; most = le-trans (u .most) (lit≤ {m = 13176795 * 2 ^ 127} {n = 4 * 2 ^ 149} tt) }
+
+plus-units : (A : ℕ) → A ≤ 13176795 → Result binary32 (turned false A) pi-units
+plus-units A h = record { p = A * 2 ^ 127; n = 0; part = plus-turned A h; most = le-trans (le-of-eq (add-zero (A * 2 ^ 127))) (in-units A h) }
+
+minus-units : (A : ℕ) → A ≤ 13176795 → Result binary32 (turned true A) pi-units
+minus-units A h = record { p = 0; n = A * 2 ^ 127; part = minus-turned A h; most = le-trans (le-of-eq (zero-add (A * 2 ^ 127))) (in-units A h) }
+
 from-zero : (A : ℕ) → A ≤ 13176795 → FromZero (turned false A)
 from-zero A h = record {
   is-number = finite-of (turned false A) false (A * 2 ^ 127) (2 ^ 149) (turned-value false A (few h));
   held = turned-fits false A (few h);
   least = le-part binary32 (fin false 0 (pos 0)) (turned false A) 0 0 (A * 2 ^ 127) 0 zero-part (plus-turned A h) .1 (any (A * 2 ^ 127));
   most = le-part binary32 (turned false A) pi (A * 2 ^ 127) 0 pi-units 0 (plus-turned A h) pi-part .1 (kept (A * 2 ^ 127) pi-units (in-units A h));
-  units = record { p = A * 2 ^ 127; n = 0; part = plus-turned A h; most = le-trans (le-of-eq (add-zero (A * 2 ^ 127))) (in-units A h) };
+  units = plus-units A h;
+  four = below-four (turned false A) (plus-units A h);
 }
   where
     any : (n : ℕ) → 0 + 0 ≤ 0 + n
@@ -87,6 +100,7 @@ either-way false A h =
       least = le-part binary32 (fin true 13176795 (negsuc 21)) (turned false A) 0 pi-units (A * 2 ^ 127) 0 low-part (plus-turned A h) .1 (any (A * 2 ^ 127) pi-units);
       most = z .most;
       units = z .units;
+      four = z .four;
     }
   where
     any : (n m : ℕ) → 0 + 0 ≤ m + n
@@ -96,7 +110,8 @@ either-way true A h = record {
   held = turned-fits true A (few h);
   least = le-part binary32 (fin true 13176795 (negsuc 21)) (turned true A) 0 pi-units 0 (A * 2 ^ 127) low-part (minus-turned A h) .1 (kept (A * 2 ^ 127) pi-units (in-units A h));
   most = le-part binary32 (turned true A) pi 0 (A * 2 ^ 127) pi-units 0 (minus-turned A h) pi-part .1 (any (A * 2 ^ 127) pi-units);
-  units = record { p = 0; n = A * 2 ^ 127; part = minus-turned A h; most = le-trans (le-of-eq (zero-add (A * 2 ^ 127))) (in-units A h) };
+  units = minus-units A h;
+  four = below-four (turned true A) (minus-units A h);
 }
   where
     any : (n m : ℕ) → 0 + 0 ≤ n + m

@@ -1,4 +1,4 @@
--- The four octants: the angle of (X, Y) and of (-X, Y), less or plus 2 ^ -18 give or take 2 ^ -23, lies on the right side of it. Assumes nothing.
+-- The four octants: the angle of (X, Y) and of (-X, Y), less or plus d from 896 to 4224 units of 2 ^ -30, lies on the right side of it. Assumes nothing.
 use Prim.Native.Nat.{ℕ, zero, suc, _+_, _*_, _-_, _≤_, _<_}
 use mathlib.Core.Path.{_≡_, refl, sym, ap, _∙_, subst}
 use mathlib.Core.Logic.{_⊎_, inl, inr}
@@ -14,7 +14,7 @@ use Rattle.series.proofs.Order.{here-or-on}
 use Rattle.arcs.proofs.FirstOctant.{First, Over, first}
 use Rattle.arcs.proofs.Carry.{near-refl, carry, dot-carry}
 
--- y (a - a') + 16 D ≤ x (b - b')
+-- y (a - a') + 7 D ≤ x (b - b')
 abbrev pub Less : ℕ → ℕ → ℕ → ℕ → ℕ → ℕ → Type 0
 Less y x a a' b b' = y * a + x * b' + 7 * D ≤ y * a' + x * b
 

@@ -1,4 +1,5 @@
 -- v S < u C at d before the computed angle, where the entry of the table lies between: from bounds of the first order at w before the entry. Assumes nothing.
+-- The numerals are powers of two: 2 ^ 30 is 1073741824, 2 ^ 31 2147483648, 2 ^ 61 2305843009213693952, 2 ^ 91 2475880078570760549798248448; 2097152 is 2 ^ 21.
 use Prim.Native.Nat.{ℕ, suc, _+_, _*_, _≤_, _<_, _-_}
 use mathlib.Core.Path.{_≡_, refl, ap}
 use native.Mathlib.Nat.{mul-comm, mul-assoc, mul-left-comm, mul-le-mul, mul-le-mul-left, mul-le-mul-right, add-mul, mul-add, one-mul}
