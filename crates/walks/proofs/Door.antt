@@ -22,9 +22,8 @@ use Rattle.moves.specs.Distance.{Each}
 use Rattle.walks.specs.Walk.{spread, Walk}
 use Rattle.walks.specs.Reach.{AtMost, Reach, ReachFeet}
 use Rattle.walks.specs.Answers.{walkRefusal, walkFeetRefusal}
-use Rattle.walks.proofs.Aim.{Parts}
+use Rattle.walks.proofs.Aim.{Fit, Parts}
 use Rattle.walks.proofs.Few.{most-steps}
-use Rattle.walks.proofs.Given.{Fit}
 
 coordinate : (x : Float) → Fit x → T (finite x) → T (permits walkFoot x) → AtMost (3 * unity) x
 coordinate x F f p = (f, permitted-mag walkFoot 0 (2 * unity) (2 * unity) 0 walk-foot-ends (3 * unity) (lit≤ tt) (lit≤ tt) x F p)

@@ -1,11 +1,14 @@
 mod Arithmetic
 mod Few
 mod Coordinate
+mod Neighbours
 mod Far
 pub mod Aim
 mod Descent
 pub mod Keeps
-mod Steps
+mod Passing
+pub mod Nearer
+pub mod Steps
 pub mod Given
 pub mod Loop
 pub mod Door
