@@ -13,6 +13,7 @@ pub mod Given
 pub mod Loop
 pub mod Door
 pub mod Feet
+pub mod Table
 pub mod OneAnswer
 pub mod Trail
 pub mod Unrefused
