@@ -1,7 +1,8 @@
 -- What the facts about a walk stand on: its target and max move, and a point of it, in units.
 use Prim.Native.Nat.{ℕ, _*_, _^_, _≤_}
 use mathlib.Core.Bool.{false}
-use lib.Ieee.{Float}
+use lib.Dec.{T}
+use lib.Ieee.{Float, binary32, fits}
 use lib.Ieee.Exact.{HasValue}
 use Rattle.units.specs.Units.{Units, unity, hi, lo, mag}
 use Rattle.units.proofs.Held.{Single}
@@ -13,8 +14,14 @@ use Rattle.walks.specs.Walk.{spread}
 abbrev pub Parts : ℕ → Float → Type 0
 Parts k x = (hi x ≤ k) × (lo x ≤ k)
 
+-- the format holds it: every number that the machine has
+abbrev pub Fit : Float → Type 0
+Fit x = T (fits binary32 x)
+
 -- the target is at most 3 either way, the max move from 1/4096 to 1
 pub record Aim (m : Float) (t : Point) : Type 0 where
+  pub held : Each Fit t
+  pub held-move : Fit m
   pub target : Each Single t
   pub near : Each (Parts (3 * unity)) t
   pub move : HasValue m false (mag m) unity
@@ -23,5 +30,6 @@ pub record Aim (m : Float) (t : Point) : Type 0 where
 
 -- a point on the way: f32s, at most 18 from the target in the sum of the three differences
 pub record OnWay (l t : Point) : Type 0 where
+  pub held : Each Fit l
   pub point : Each Single l
   pub near : spread l t ≤ 18 * unity

@@ -16,10 +16,7 @@ use Rattle.legs.specs.declared.Point.{Point}
 use Rattle.moves.specs.Distance.{Each}
 use Rattle.walks.specs.Walk.{spread}
 use Rattle.walks.specs.Reach.{AtMost, Reach}
-use Rattle.walks.proofs.Aim.{Parts, Aim, OnWay}
-
-abbrev pub Fit : Float → Type 0
-Fit x = T (fits binary32 x)
+use Rattle.walks.proofs.Aim.{Fit, Parts, Aim, OnWay}
 
 both-parts : (k : ℕ) (x : Float) → mag x ≤ k → Parts k x
 both-parts k x h = parts (hi x) (lo x) (le-trans (le-of-eq (sym (mag-parts x))) h)
@@ -51,6 +48,8 @@ module _ (m : Float) (s t : Point) (r : Reach m s t) (fm : Fit m) (fs : Each Fit
 
   pub aimed : Aim m t
   aimed = record {
+    held = ft;
+    held-move = fm;
     target = all-single t (r .target) ft;
     near = all-parts t (r .target);
     move = subst (λ (a : ℕ). HasValue m false a unity) (sym move-hi) move-value;
@@ -63,6 +62,7 @@ module _ (m : Float) (s t : Point) (r : Reach m s t) (fm : Fit m) (fs : Each Fit
       let p = all-parts s (r .start) in
       let q = all-parts t (r .target) in
       record {
+        held = fs;
         point = all-single s (r .start) fs;
         near = eighteen (apart (t .x) (s .x)) (apart (t .y) (s .y)) (apart (t .z) (s .z)) unity (apart-most (t .x) (s .x) (q .0) (p .0)) (apart-most (t .y) (s .y) (q .1) (p .1)) (apart-most (t .z) (s .z) (q .2) (p .2));
       }

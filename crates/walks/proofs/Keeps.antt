@@ -20,11 +20,11 @@ use Rattle.moves.specs.Moving.{component, along}
 use Rattle.walks.proofs.Arithmetic.{move-up}
 use Rattle.moves.proofs.Squares.{diff, size, less-32}
 use Rattle.walks.proofs.Coordinate.{move, next, coord-part, moves, move-zero, diff-zero, sum-p, sum-n, δ, total}
-use Rattle.walks.proofs.Aim.{Aim, OnWay}
+use Rattle.walks.proofs.Aim.{Fit, Aim, OnWay}
 use Rattle.walks.proofs.Descent.{reach, parts-lt, measured, near, lowers}
 
 -- ---- on parts: the move is H upwards
-adv : (pl nl Hp Hn : ℕ) → (pl ≡ 0) ⊎ (nl ≡ 0) → Hn ≡ 0 → rounded pl unity ≡ pl → rounded nl unity ≡ nl → pl + rounded (nl + Hn - (pl + Hp)) unity ≤ nl + rounded (pl + Hp - (nl + Hn)) unity
+pub adv : (pl nl Hp Hn : ℕ) → (pl ≡ 0) ⊎ (nl ≡ 0) → Hn ≡ 0 → rounded pl unity ≡ pl → rounded nl unity ≡ nl → pl + rounded (nl + Hn - (pl + Hp)) unity ≤ nl + rounded (pl + Hp - (nl + Hn)) unity
 adv pl nl Hp Hn (inl z) h ep en =
     let a : rounded (nl + Hn - (pl + Hp)) unity ≤ nl = le-trans (rounded-mono (nl + Hn - (pl + Hp)) nl (omega arith)) (le-of-eq en) in
     fin1 pl nl (rounded (nl + Hn - (pl + Hp)) unity) (rounded (pl + Hp - (nl + Hn)) unity) z a
@@ -196,6 +196,13 @@ module _ (m : Float) (l t : Point) (aim : Aim m t) (way : OnWay l t) (far : T (n
 single-component : (d m l t : Float) → Units (component d m l t) → Single (component d m l t)
 unfolding component
 single-component d m l t u = single (component d m l t) (part-finite binary32 (component d m l t) (hi (component d m l t)) (lo (component d m l t)) u) (add-fits binary32 l (mul binary32 (div binary32 (sub binary32 t l) d) m))
+
+pub along-held : (d m : Float) (l t : Point) → Each Fit (along d m l t)
+unfolding along component
+along-held d m l t = (held (l .x) (t .x), held (l .y) (t .y), held (l .z) (t .z))
+  where
+    held : (x y : Float) → Fit (add binary32 x (mul binary32 (div binary32 (sub binary32 y x) d) m))
+    held x y = add-fits binary32 x (mul binary32 (div binary32 (sub binary32 y x) d) m)
 
 pub single-along : (d m : Float) (l t : Point) → Each Units (along d m l t) → Each Single (along d m l t)
 unfolding along

@@ -1,15 +1,19 @@
 mod Arithmetic
 mod Few
 mod Coordinate
+mod Neighbours
 mod Far
 pub mod Aim
 mod Descent
 pub mod Keeps
-mod Steps
+mod Passing
+pub mod Nearer
+pub mod Steps
 pub mod Given
 pub mod Loop
 pub mod Door
 pub mod Feet
+pub mod Table
 pub mod OneAnswer
 pub mod Trail
 pub mod Unrefused

@@ -1,4 +1,4 @@
--- One step of a walk that moved: it stays on the way, S falls, and each coordinate stays between its start and its target.
+-- One step of a walk: it stays on the way, S falls where it moved, and each coordinate stays between its start and its target and comes no farther from it.
 use mathlib.Core.Path.{_≡_, refl, sym, ap, _∙_, subst}
 use mathlib.Core.Logic.{_⊎_, inl, inr}
 use Prim.Native.Nat.{ℕ, zero, suc, _+_, _*_, _^_, _≤_, _<_, zero-le}
@@ -21,7 +21,8 @@ use Rattle.moves.proofs.Steps.{stands, moves, goes-there, goes-along, arrived-a
 use Rattle.walks.specs.Walk.{spread}
 use Rattle.walks.proofs.Aim.{Aim, OnWay}
 use Rattle.walks.proofs.Descent.{lowers}
-use Rattle.walks.proofs.Keeps.{Inside, at-end, inside-step, all-kept, single-along}
+use Rattle.walks.proofs.Nearer.{NoFarther, along-no-farther}
+use Rattle.walks.proofs.Keeps.{Inside, at-end, inside-step, all-kept, along-held, single-along}
 
 -- ---- S is 0 at the target, and only there
 apart-self : (x : Float) → apart x x ≡ 0
@@ -60,6 +61,14 @@ pub record Moves (m : Float) (l t p : Point) : Type 0 where
   pub less : spread p t < spread l t
   pub falls : (2 * spread p t + mag m ≤ 2 * spread l t) ⊎ (spread p t ≡ 0)
   pub between : (s : Point) → Between s t l → Between s t p
+  pub no-farther : NoFarther l t p
+
+-- the target is no farther than anything
+pub at-target : (l t : Point) → NoFarther l t t
+at-target l t = record { x = none (t .x) (l .x); y = none (t .y) (l .y); z = none (t .z) (l .z) }
+  where
+    none : (x y : Float) → apart x x ≤ apart x y
+    none x y = subst (λ (a : ℕ). a ≤ apart x y) (sym (apart-self x)) zero-le
 
 test-false : {b : Bool} → b ≡ false → T (not b)
 test-false e = subst (λ (b : Bool). T (not b)) (sym e) tt
@@ -74,10 +83,11 @@ module _ (m : Float) (l t : Point) (aim : Aim m t) (way : OnWay l t) where
 
   to-target : same l t ≡ false → Moves m l t t
   to-target e = record {
-    way = record { point = aim .target; near = subst (λ (a : ℕ). a ≤ 18 * unity) (sym (spread-self t)) zero-le };
+    way = record { held = aim .held; point = aim .target; near = subst (λ (a : ℕ). a ≤ 18 * unity) (sym (spread-self t)) zero-le };
     less = subst (λ (a : ℕ). a < spread l t) (sym (spread-self t)) (elsewhere e);
     falls = inr (spread-self t);
     between = λ s b. record { x = at-end (s .x) (t .x); y = at-end (s .y) (t .y); z = at-end (s .z) (t .z) };
+    no-farther = at-target l t;
   }
 
   onward : le (distance l t) m ≡ false → Moves m l t (along (distance l t) m l t)
@@ -87,7 +97,7 @@ module _ (m : Float) (l t : Point) (aim : Aim m t) (way : OnWay l t) where
       let k = all-kept m l t aim way far in
       let p = along (distance l t) m l t in
       record {
-        way = record { point = single-along (distance l t) m l t (w .units); near = still (spread l t) (spread p t) (mag m) (18 * unity) (w .lowered) (way .near) };
+        way = record { held = along-held (distance l t) m l t; point = single-along (distance l t) m l t (w .units); near = still (spread l t) (spread p t) (mag m) (18 * unity) (w .lowered) (way .near) };
         less = fewer (spread l t) (spread p t) (mag m) (lt-of-lt-of-le (pow-pos 137) (aim .from)) (w .lowered);
         falls = inl (w .lowered);
         between = λ s b. record {
@@ -95,6 +105,7 @@ module _ (m : Float) (l t : Point) (aim : Aim m t) (way : OnWay l t) where
           y = inside-step (s .y) (t .y) (l .y) (p .y) (k .y) (b .y);
           z = inside-step (s .z) (t .z) (l .z) (p .z) (k .z) (b .z);
         };
+        no-farther = along-no-farther m l t aim way far;
       }
     where
       still : (a b c k : ℕ) → 2 * b + c ≤ 2 * a → a ≤ k → b ≤ k
@@ -120,23 +131,21 @@ module _ (m : Float) (l t : Point) (aim : Aim m t) (way : OnWay l t) where
   pub record Kept : Type 0 where
     pub on : OnWay (pointOf (moveTowards l t m)) t
     pub between : (s : Point) → Between s t l → Between s t (pointOf (moveTowards l t m))
+    pub no-farther : NoFarther l t (pointOf (moveTowards l t m))
 
   pub kept : Kept
   unfolding pointOf
   kept = by-answer (moveTowards l t m) refl
     where
-      arrived : (p : Point) → p ≡ t → (OnWay p t) × ((s : Point) → Between s t l → Between s t p)
-      arrived p e = (
-        subst (λ (q : Point). OnWay q t) (sym e) (record { point = aim .target; near = subst (λ (a : ℕ). a ≤ 18 * unity) (sym (spread-self t)) zero-le }),
-        λ s b. subst (Between s t) (sym e) (record { x = at-end (s .x) (t .x); y = at-end (s .y) (t .y); z = at-end (s .z) (t .z) }),
-      )
-
       by-answer : (a : MoveStep) → moveTowards l t m ≡ a → Kept
       by-answer (Moved p) e =
           let w = moved p e in
           let q : p ≡ pointOf (moveTowards l t m) = sym (ap pointOf e) in
-          record { on = subst (λ (r : Point). OnWay r t) q (w .way); between = λ s b. subst (Between s t) q (w .between s b) }
+          record { on = subst (λ (r : Point). OnWay r t) q (w .way); between = λ s b. subst (Between s t) q (w .between s b); no-farther = subst (NoFarther l t) q (w .no-farther) }
       by-answer (Arrived p) e =
-          let w = arrived p (arrived-at-target l t m p e) in
-          let q : p ≡ pointOf (moveTowards l t m) = sym (ap pointOf e) in
-          record { on = subst (λ (r : Point). OnWay r t) q (w .0); between = λ s b. subst (Between s t) q (w .1 s b) }
+          let q : t ≡ pointOf (moveTowards l t m) = sym (ap pointOf e ∙ arrived-at-target l t m p e) in
+          record {
+            on = subst (λ (r : Point). OnWay r t) q (record { held = aim .held; point = aim .target; near = subst (λ (a : ℕ). a ≤ 18 * unity) (sym (spread-self t)) zero-le });
+            between = λ s b. subst (Between s t) q (record { x = at-end (s .x) (t .x); y = at-end (s .y) (t .y); z = at-end (s .z) (t .z) });
+            no-farther = subst (NoFarther l t) q (at-target l t);
+          }

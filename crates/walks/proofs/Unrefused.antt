@@ -28,8 +28,8 @@ use Rattle.walks.specs.Walk.{pointAfter}
 use Rattle.walks.specs.Reach.{Reach}
 use Rattle.walks.proofs.Coordinate.{δ}
 use Rattle.walks.proofs.Keeps.{Inside, at-end}
-use Rattle.walks.proofs.Aim.{Parts, Aim, OnWay}
-use Rattle.walks.proofs.Given.{Fit, aimed, set-out, all-parts, move-single}
+use Rattle.walks.proofs.Aim.{Fit, Parts, Aim, OnWay}
+use Rattle.walks.proofs.Given.{aimed, set-out, all-parts, move-single}
 use Rattle.walks.proofs.Steps.{Between}
 use Rattle.walks.proofs.Trail.{on-way, between}
 

@@ -5,7 +5,7 @@ use borrow.Author.Needs.{needs}
 use Rattle.legs.specs.Legs.{Leg, leftFront, rightFront, leftMiddle, rightMiddle, leftRear, rightRear, foot}
 use Rattle.units.proofs.Door.{holds}
 use Rattle.moves.specs.Distance.{Each}
-use Rattle.walks.proofs.Given.{Fit}
+use Rattle.walks.proofs.Aim.{Fit}
 use Rattle.walks.proofs.Door.{let-feet-in}
 use Rattle.walks.proofs.walk_feet.Statement.{statement}
 use Rattle.walks.proofs.walk_feet.Tie as tie
