@@ -1,6 +1,5 @@
 mod OnePass
 mod PastLimit
-mod Bounds
 pub mod Within
 pub mod OneAnswer
 pub mod Laws

@@ -2,7 +2,6 @@
 -- sine and cosine is within document 01's row for it.
 use mathlib.Core.Path.{_≡_, refl}
 use mathlib.Core.Bool.{Bool, true, false, _&&_}
-use Prim.Native.Nat.{ℕ, _+_, _*_, _^_, _≤_}
 use lib.Dec.{T, lit≤, lit<}
 use lib.IntN.{pos}
 use lib.Ieee.{Float, fin, binary32, ofBits, add, neg, lt, eq, le, fits}
@@ -12,9 +11,11 @@ use Rattle.numbers.specs.Told.{choose}
 use Rattle.numbers.specs.Door.{permits, unless, either}
 use Rattle.numbers.specs.Finite.{lesser}
 use Rattle.numbers.specs.Limits as rows
-use Rattle.units.specs.Units.{unity, mag, hi, lo}
-use Rattle.units.proofs.Table as table
-use Rattle.legs.specs.Legs.{Leg, leftFront, rightFront, leftMiddle, rightMiddle, leftRear, rightRear, every, foot, angles, finitePoint, permittedPoint}
+use Rattle.units.specs.Units.{mag, hi, lo}
+use Rattle.legs.specs.Legs.{Leg, every, foot, angles, finitePoint, permittedPoint}
+use Rattle.bounds.specs.Between.{Between, HeldPoint, HeldFeet, PointBounds}
+use Rattle.bounds.proofs.Between.{wider, sum-between, difference-between, square-between, magnitude-between, flip-between, root-between}
+use Rattle.bounds.proofs.Rows.{at-rotation, at-correction, at-offset, at-length, at-motor, sine-row, atan2-row, root-row, point-bounds, each}
 use Rattle.legs.specs.declared.Point.{Point}
 use Rattle.legs.specs.declared.Feet.{Feet}
 use Rattle.legs.specs.declared.LegAngles.{LegAngles}
@@ -26,14 +27,8 @@ use Rattle.joints.specs.Forward.{fromMotor, baseAngle, femurTurn, tibiaT
 use Rattle.joints.specs.declared.configuration.Body.{Body}
 use Rattle.joints.specs.declared.configuration.LegConfiguration.{LegConfiguration}
 use Rattle.joints.specs.declared.configuration.Configuration.{Configuration}
-use Rattle.joints.proofs.Bounds.{Between, wider, sum-between, difference-between, square-between, magnitude-between, flip-between, root-between, through-the-door, in-the-table}
 
 -- ---- the floats of a record are f32
-pub record HeldPoint (p : Point) : Type 0 where
-  pub x : T (fits binary32 (p .x))
-  pub y : T (fits binary32 (p .y))
-  pub z : T (fits binary32 (p .z))
-
 pub record HeldLeg (l : LegConfiguration) : Type 0 where
   pub position : HeldPoint (l .position)
   pub angle : T (fits binary32 (l .«angle_offset»))
@@ -54,25 +49,7 @@ pub record HeldConfiguration (c : Configuration) : Type 0 where
   pub body : HeldBody (c .body)
   pub legs : (l : Leg) → HeldLeg (leg c l)
 
--- ---- what is permitted, in whole metres and radians
-at-foot : (x : Float) → T (fits binary32 x) → T (permits rows.foot x) → Between 4 4 x
-at-foot = through-the-door rows.foot 0 (4 * unity) (4 * unity) table.foot-ends 4 4 (lit≤ tt) (lit≤ tt)
-
-at-rotation : (x : Float) → T (fits binary32 x) → T (permits rows.rotation x) → Between 4 4 x
-at-rotation = through-the-door rows.rotation 0 (4 * unity) (4 * unity) table.rotation-ends 4 4 (lit≤ tt) (lit≤ tt)
-
-at-correction : (x : Float) → T (fits binary32 x) → T (permits rows.correction x) → Between 6 6 x
-at-correction = through-the-door rows.correction 0 (6 * unity) (6 * unity) table.correction-ends 6 6 (lit≤ tt) (lit≤ tt)
-
-at-offset : (x : Float) → T (fits binary32 x) → T (permits rows.offset x) → Between 2 2 x
-at-offset = through-the-door rows.offset 0 (2 * unity) (2 * unity) table.offset-ends 2 2 (lit≤ tt) (lit≤ tt)
-
-at-length : (x : Float) → T (fits binary32 x) → T (permits rows.legLength x) → Between 0 1 x
-at-length = through-the-door rows.legLength (2 ^ 141) 0 unity table.leg-length-ends 0 1 (lit≤ tt) (lit≤ tt)
-
-at-motor : (x : Float) → T (fits binary32 x) → T (permits rows.motorAngle x) → Between 0 8 x
-at-motor = through-the-door rows.motorAngle 0 0 (8 * unity) table.motor-angle-ends 0 8 (lit≤ tt) (lit≤ tt)
-
+-- ---- the bounds of what is permitted, in whole metres and radians, and of the constants
 ninety-between : Between 0 2 ninety
 unfolding ninety ofBits fits hi lo
 ninety-between = record { held = tt; ok = (refl, refl); low = lit≤ tt; high = lit≤ tt }
@@ -82,22 +59,8 @@ unfolding oneFifty ofBits fits hi lo
 oneFifty-between = record { held = tt; ok = (refl, refl); low = lit≤ tt; high = lit≤ tt }
 
 -- ---- the same of records
-record PointBounds (p : Point) : Type 0 where
-  x : Between 4 4 (p .x)
-  y : Between 4 4 (p .y)
-  z : Between 4 4 (p .z)
-
-point-bounds : (p : Point) → HeldPoint p → T (permittedPoint rows.foot p) → PointBounds p
-unfolding permittedPoint
-point-bounds p H h =
-    let x = permits rows.foot (p .x) in
-    let y = permits rows.foot (p .y) in
-    let z = permits rows.foot (p .z) in
-    let xy = and-l (x && y) z h in
-    record { x = at-foot (p .x) (H .x) (and-l x y xy); y = at-foot (p .y) (H .y) (and-r x y xy); z = at-foot (p .z) (H .z) (and-r (x && y) z h) }
-
 record LegBounds (l : LegConfiguration) : Type 0 where
-  position : PointBounds (l .position)
+  position : PointBounds 4 (l .position)
   angle : Between 4 4 (l .«angle_offset»)
   femur : Between 6 6 (l .«femur_correction»)
   tibia : Between 6 6 (l .«tibia_correction»)
@@ -168,17 +131,8 @@ pub record IkArguments (target : Point) (b : Body) (l : LegConfiguration) : Type
 twelve : Float
 twelve = fin false 3 (pos 2)
 
-sine-row : {N Q : ℕ} {x : Float} → Between N Q x → N ≤ 16 → Q ≤ 16 → T (permits rows.sineArgument x)
-sine-row b n q = in-the-table rows.sineArgument (16 * unity) (16 * unity) table.sine-argument-ends (lit≤ tt) (lit≤ tt) (wider b n q)
-
-atan2-row : {N Q : ℕ} {x : Float} → Between N Q x → N ≤ 128 → Q ≤ 128 → T (permits rows.atan2Argument x)
-atan2-row b n q = in-the-table rows.atan2Argument (128 * unity) (128 * unity) table.atan2-argument-ends (lit≤ tt) (lit≤ tt) (wider b n q)
-
-root-row : {Q : ℕ} {x : Float} → Between 0 Q x → Q ≤ 65536 → T (permits rows.rootArgument x)
-root-row b q = in-the-table rows.rootArgument 0 (65536 * unity) table.root-argument-ends {N = 0} (lit≤ tt) (lit≤ tt) (wider b (lit≤ tt) q)
-
 -- the foot lies at most 8 from its coxa in each coordinate, so at most 12 sideways
-ik-arguments : (target : Point) (b : Body) (l : LegConfiguration) → PointBounds target → BodyBounds b → LegBounds l → IkArguments target b l
+ik-arguments : (target : Point) (b : Body) (l : LegConfiguration) → PointBounds 4 target → BodyBounds b → LegBounds l → IkArguments target b l
 unfolding relative horizontalDistance twelve mag fits
 ik-arguments target b l P B L =
     let x = difference-between (P .x) (L .position .x) (lit< tt) (lit< tt) in
@@ -246,28 +200,6 @@ none-refused true true e = tt
 none-refused true false e = absurd (omega arith)
 none-refused false P e = absurd (omega arith)
 
-each : (t : Leg → Bool) → T (every t) → (l : Leg) → T (t l)
-each t h l =
-    let a = t leftFront in
-    let b = t rightFront in
-    let c = t leftMiddle in
-    let d = t rightMiddle in
-    let e = t leftRear in
-    let f = t rightRear in
-    let abcde = and-l (a && b && c && d && e) f h in
-    let abcd = and-l (a && b && c && d) e abcde in
-    let abc = and-l (a && b && c) d abcd in
-    let ab = and-l (a && b) c abc in
-    pick (and-l a b ab) (and-r a b ab) (and-r (a && b) c abc) (and-r (a && b && c) d abcd) (and-r (a && b && c && d) e abcde) (and-r (a && b && c && d && e) f h) l
-  where
-    pick : T (t leftFront) → T (t rightFront) → T (t leftMiddle) → T (t rightMiddle) → T (t leftRear) → T (t rightRear) → (l : Leg) → T (t l)
-    pick a b c d e f leftFront = a
-    pick a b c d e f rightFront = b
-    pick a b c d e f leftMiddle = c
-    pick a b c d e f rightMiddle = d
-    pick a b c d e f leftRear = e
-    pick a b c d e f rightRear = f
-
 module _ (c : Configuration) (C : HeldConfiguration c) (h : T (permittedConfiguration c)) where
   legs-bounds : (l : Leg) → LegBounds (leg c l)
   unfolding permittedConfiguration
@@ -277,7 +209,7 @@ module _ (c : Configuration) (C : HeldConfiguration c) (h : T (permittedConfigur
   unfolding permittedConfiguration
   shared-bounds = body-bounds (c .body) (C .body) (and-r (every (λ l. permittedLeg (leg c l))) (permittedBody (c .body)) h)
 
-pub ik-within : (f : Feet) (c : Configuration) → ((l : Leg) → HeldPoint (foot f l)) → HeldConfiguration c → ikRefusal f c ≡ 0 → (l : Leg) → IkArguments (foot f l) (c .body) (leg c l)
+pub ik-within : (f : Feet) (c : Configuration) → HeldFeet f → HeldConfiguration c → ikRefusal f c ≡ 0 → (l : Leg) → IkArguments (foot f l) (c .body) (leg c l)
 unfolding ikRefusal
 ik-within f c F C e l =
     let p = every (λ l. permittedPoint rows.foot (foot f l)) in
