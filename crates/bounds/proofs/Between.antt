@@ -14,7 +14,7 @@ use lib.Ieee.Scale.{overflow}
 use Rattle.numbers.specs.Door.{finite, permits}
 use Rattle.numbers.specs.Finite.{magnitude}
 use Rattle.numbers.specs.declared.door.Limit.{Limit}
-use Rattle.units.specs.Units.{unity, Part, hi, lo, mag, Units, rounded}
+use Rattle.units.specs.Units.{unity, Part, hi, lo, mag, rounded}
 use Rattle.units.proofs.Grid.{grid-mono}
 use Rattle.units.proofs.Values.{hi-is, lo-is, units-of, one-side, plus-part, mag-parts, part-finite}
 use Rattle.units.proofs.Add.{add-part, sub-part, neg-part}

@@ -1,10 +1,9 @@
 -- A step by distance hands the root and the sine nothing outside their tables: the root by `moves`, and the progress is never more than 1.
-use mathlib.Core.Path.{_≡_, refl, sym, ap, _∙_, subst}
-use mathlib.Core.Logic.{_⊎_, inl, inr}
+use mathlib.Core.Path.{_≡_, refl, sym, _∙_, subst}
 use mathlib.Core.Bool.{Bool, true, false, not, _&&_, true≢false}
 use mathlib.Core.List.{[], _∷_}
-use Prim.Native.Nat.{ℕ, zero, suc, _+_, _*_, _^_, _≤_, _<_, zero-le}
-use native.Mathlib.Nat.{le-trans, le-of-eq, le-refl, zero-lt-suc}
+use Prim.Native.Nat.{ℕ, zero, suc, _+_, _*_, _≤_, _<_, zero-le}
+use native.Mathlib.Nat.{le-trans, le-of-eq, zero-lt-suc}
 use native.Mathlib.Omega.{arith}
 use lib.Dec.{T, lit≤, lit<}
 use lib.Ieee.{Float, nan, inf, fin, binary32, add, mul, div, lt, eq, fits}
@@ -15,23 +14,22 @@ use Rattle.numbers.specs.Finite.{lesser, greater}
 use Rattle.numbers.specs.Door.{finite, permits, unless, firstOf}
 use Rattle.numbers.specs.Limits.{over}
 use Rattle.numbers.specs.Limits as rows
-use Rattle.units.specs.Units.{unity, Part, hi, lo, mag}
-use Rattle.units.proofs.Values.{plus-part, lo-is, hi-is, mag-is, units-of}
+use Rattle.units.specs.Units.{unity, Part, hi, lo}
+use Rattle.units.proofs.Values.{plus-part, mag-is}
 use Rattle.units.proofs.Held.{grid-exact}
 use Rattle.units.proofs.Order.{eq-part, not-lt-part}
-use Rattle.units.proofs.Bounds.{Result, div-most}
+use Rattle.units.proofs.Bounds.{div-most}
 use Rattle.units.proofs.Door.{permitted}
 use Rattle.units.proofs.Table.{root-argument-ends}
 use Rattle.roots.specs.Root.{squareRoot}
 use Rattle.roots.proofs.Laws.{rooted, root-fits, root-high}
-use Rattle.legs.specs.Legs.{Leg, leftFront, rightFront, leftMiddle, rightMiddle, leftRear, rightRear, row, foot, permittedPoint}
-use Rattle.legs.specs.declared.Point.{Point}
+use Rattle.legs.specs.Legs.{Leg, leftFront, rightFront, leftMiddle, rightMiddle, leftRear, rightRear, foot, permittedPoint}
 use Rattle.legs.specs.declared.Feet.{Feet}
-use Rattle.bounds.specs.Between.{Between, HeldPoint, HeldFeet}
+use Rattle.bounds.specs.Between.{Between, HeldFeet}
 use Rattle.bounds.proofs.Between.{made, result-between, sum-between, product-between}
 use Rattle.bounds.proofs.Rows.{at-max-move, sine-row, each}
-use Rattle.moves.specs.Distance.{horizontalSum, horizontalDistance, largestFrom, largest, maxHorizontalDistance}
-use Rattle.moves.specs.Refusals.{finiteFeet, permittedFeet}
+use Rattle.moves.specs.Distance.{horizontalSum, horizontalDistance, maxHorizontalDistance}
+use Rattle.moves.specs.Refusals.{permittedFeet}
 use Rattle.moves.proofs.Largest.{Rootable, upward, horizontal-sum-rootable}
 use Rattle.moves.proofs.Squares.{horizontal-sum-permitted}
 use Rattle.steps.specs.Leg.{halfTurn}

@@ -1,13 +1,12 @@
 -- No number passes a limit inside: where the door lets a state and a time through, a step asks for the sine of a number within document 01's row, or for none.
-use mathlib.Core.Path.{_≡_, refl, sym, ap, _∙_, subst}
+use mathlib.Core.Path.{_≡_, refl, sym, subst}
 use mathlib.Core.Logic.{_⊎_, inl, inr}
 use mathlib.Core.Bool.{Bool, true, false, not, _&&_, true≢false}
 use mathlib.Core.List.{[], _∷_}
-use Prim.Native.Nat.{ℕ, _+_, _*_, _^_, _≤_, _<_}
+use Prim.Native.Nat.{ℕ, _+_, _*_, _≤_, _<_}
 use native.Mathlib.Omega.{arith}
 use lib.Dec.{T, lit≤, lit<}
-use lib.IntN.{ℤ}
-use lib.Ieee.{Float, nan, inf, fin, binary32, mul, div, lt, eq, le, fits}
+use lib.Ieee.{Float, nan, inf, fin, binary32, mul, div, lt, le, fits}
 use lib.Ieee.Fits.{div-fits}
 use Rattle.numbers.specs.Door.{finite, permits, unless, either, firstOf}
 use Rattle.numbers.specs.Limits.{over}
