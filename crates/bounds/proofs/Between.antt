@@ -4,7 +4,7 @@ use mathlib.Core.Path.{_≡_, refl, sym, ap, _∙_, subst}
 use mathlib.Core.Logic.{_⊎_, inl, inr}
 use mathlib.Core.Bool.{true, false}
 use Prim.Native.Nat.{ℕ, zero, suc, _+_, _-_, _*_, _^_, _≤_, _<_, zero-le}
-use native.Mathlib.Nat.{le-trans, le-of-eq, lt-of-le-of-lt, lt-of-lt-of-le, mul-assoc, mul-left-comm, mul-le-mul, mul-le-mul-right, mul-lt-mul-of-pos-right, mul-pos}
+use native.Mathlib.Nat.{le-trans, le-refl, le-of-eq, lt-of-le-of-lt, lt-of-lt-of-le, mul-assoc, mul-left-comm, mul-le-mul, mul-le-mul-right, mul-lt-mul-of-pos-right, mul-pos}
 use native.Mathlib.Omega.{arith}
 use lib.Dec.{T, lit≤}
 use lib.Ieee.{Float, nan, inf, fin, binary32, down, add, sub, mul, div, neg, le, fits}
@@ -14,7 +14,7 @@ use lib.Ieee.Scale.{overflow}
 use Rattle.numbers.specs.Door.{finite, permits}
 use Rattle.numbers.specs.Finite.{magnitude}
 use Rattle.numbers.specs.declared.door.Limit.{Limit}
-use Rattle.units.specs.Units.{unity, Part, hi, lo, mag, Units, rounded}
+use Rattle.units.specs.Units.{unity, Part, hi, lo, mag, rounded}
 use Rattle.units.proofs.Grid.{grid-mono}
 use Rattle.units.proofs.Values.{hi-is, lo-is, units-of, one-side, plus-part, mag-parts, part-finite}
 use Rattle.units.proofs.Add.{add-part, sub-part, neg-part}
@@ -94,14 +94,14 @@ both-parts : {k : ℕ} {x : Float} → Between k k x → hi x + lo x ≤ k * uni
 both-parts {k} {x} b = together (hi x) (lo x) (k * unity) (one-side binary32 x (hi x) (lo x) (b .ok)) (b .high) (b .low)
 
 -- ---- products and quotients
-result-between : (k : ℕ) (x : Float) → T (fits binary32 x) → Result binary32 x (k * unity) → Between k k x
-result-between k x F r = made k k x (r .p) (r .n) F (r .part) (second (r .p) (r .n) (k * unity) (r .most)) (first (r .p) (r .n) (k * unity) (r .most))
+pub result-between : (k a : ℕ) (x : Float) → T (fits binary32 x) → a ≤ k * unity → Result binary32 x a → Between k k x
+result-between k a x F h r = made k k x (r .p) (r .n) F (r .part) (second (r .p) (r .n) a (k * unity) (r .most) h) (first (r .p) (r .n) a (k * unity) (r .most) h)
   where
-    first : (i j m : ℕ) → i + j ≤ m → i ≤ m
-    first i j m h = omega arith
+    first : (i j m u : ℕ) → i + j ≤ m → m ≤ u → i ≤ u
+    first i j m u h k = omega arith
 
-    second : (i j m : ℕ) → i + j ≤ m → j ≤ m
-    second i j m h = omega arith
+    second : (i j m u : ℕ) → i + j ≤ m → m ≤ u → j ≤ u
+    second i j m u h k = omega arith
 
 module _ {k j : ℕ} {x y : Float} (a : Between k k x) (b : Between j j y) (K : k * j < 2 ^ 24) where
   pub product-between : Between (k * j) (k * j) (mul binary32 x y)
@@ -115,17 +115,17 @@ module _ {k j : ℕ} {x y : Float} (a : Between k k x) (b : Between j j y) (K : 
 
       by-sign : Signed binary32 y (hi y) (lo y) → Between (k * j) (k * j) (mul binary32 x y)
       by-sign (plus v e) =
-          result-between (k * j) (mul binary32 x y) (mul-fits binary32 x y)
+          result-between (k * j) (k * j * unity) (mul binary32 x y) (mul-fits binary32 x y) (le-refl (k * j * unity))
           (mul-most binary32 x y false (hi x) (lo x) (hi y) (k * unity) (j * unity) (k * j * unity) (a .ok) v (both-parts a) (b .high) exact (small (k * j) K) (le-of-eq (turned k j unity)))
       by-sign (minus v e) =
-          result-between (k * j) (mul binary32 x y) (mul-fits binary32 x y)
+          result-between (k * j) (k * j * unity) (mul binary32 x y) (mul-fits binary32 x y) (le-refl (k * j * unity))
           (mul-most binary32 x y true (hi x) (lo x) (lo y) (k * unity) (j * unity) (k * j * unity) (a .ok) v (both-parts a) (b .low) exact (small (k * j) K) (le-of-eq (turned k j unity)))
 
 -- k times d, divided by d
 module _ (k d : ℕ) {x : Float} (y : Float) (a : Between (k * d) (k * d) x) (v : HasValue y false (d * unity) unity) (D : 0 < d) (K : k < 2 ^ 24) where
   pub share-between : Between k k (div binary32 x y)
   share-between =
-      result-between k (div binary32 x y) (div-fits binary32 x y)
+      result-between k (k * unity) (div binary32 x y) (div-fits binary32 x y) (le-refl (k * unity))
       (div-most binary32 x y false (hi x) (lo x) (d * unity) (k * d * unity) (k * unity) (a .ok) v (mul-pos D unity-pos) (both-parts a)
       (grid-exact binary32 k 149 K (small k K)) (small k K) (le-of-eq (turned k d unity)))
     where

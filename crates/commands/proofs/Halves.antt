@@ -1,11 +1,11 @@
 -- A whole number in two halves of 24 digits: each half is an f32 as it stands, so that their sum is rounded once, to the nearest f32 of the whole.
-use mathlib.Core.Path.{_≡_, refl, sym, ap, subst, _∙_}
+use mathlib.Core.Path.{_≡_, sym, ap, _∙_}
 use mathlib.Core.Bool.{true, false, true≢false}
-use Prim.Native.Nat.{ℕ, suc, _+_, _*_, _/_, _%_, _^_, _≤_, _<_}
+use Prim.Native.Nat.{ℕ, _+_, _*_, _/_, _%_, _^_, _<_}
 use native.Mathlib.Nat.{mul-assoc, mul-one, mul-pos, lt-trans, div-add-mod', mod-lt, zero-lt-suc}
 use native.Mathlib.Omega.{arith}
-use lib.Dec.{T, lit<}
-use lib.IntN.{ℤ, pos}
+use lib.Dec.{lit<}
+use lib.IntN.{pos}
 use lib.Pow.{shl-lt}
 use lib.Ieee.{Float, nan, inf, fin, binary32, up, down, ofBits, ofInt, round, sum, add, mul}
 use lib.Ieee.Exact.{HasValue, round-exact}

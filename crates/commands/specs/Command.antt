@@ -1,7 +1,7 @@
 -- Document 01: "A command holds direction, rotation, step time and step height, besides `aggressive_leg_lift`; `should_move` compares with f32 EPSILON, strictly."
 use Prim.Native.Nat.{ℕ, _*_, _^_}
-use mathlib.Core.Bool.{Bool, true, false, not, _&&_}
-use mathlib.Core.List.{List, [], _∷_}
+use mathlib.Core.Bool.{Bool, false, not, _&&_}
+use mathlib.Core.List.{[], _∷_}
 use lib.Ieee.{Float, lt}
 use Rattle.numbers.specs.Told.{Told, given, answer}
 use Rattle.numbers.specs.Door.{finite, permits, unless, firstOf}

@@ -3,11 +3,10 @@
 use mathlib.Core.Path.{_≡_, refl}
 use mathlib.Core.Bool.{Bool, true, false, _&&_, _||_}
 use mathlib.Core.List.{[], _∷_}
-use Prim.Native.Nat.{ℕ, _+_, _*_, _^_, _≤_}
-use native.Mathlib.Nat.{zero-lt-suc}
+use Prim.Native.Nat.{ℕ, _*_, _≤_}
 use native.Mathlib.Omega.{arith}
 use lib.Dec.{T, lit≤, lit<}
-use lib.Ieee.{Float, binary32, add, sub, mul, div, neg, fits}
+use lib.Ieee.{Float, binary32, fits}
 use lib.Ieee.Fits.{and-l, and-r}
 use lib.Ieee.Exact.{HasValue}
 use Rattle.numbers.specs.Told.{choose}
@@ -19,9 +18,10 @@ use Rattle.legs.specs.Legs.{Leg, leftFront, rightFront, leftMiddle, rightMiddle
 use Rattle.legs.specs.declared.Point.{Point}
 use Rattle.legs.specs.declared.Feet.{Feet}
 use Rattle.bounds.specs.Between.{Between, HeldFeet, PointBounds}
-use Rattle.bounds.proofs.Between.{wider, sum-between, difference-between, product-between, share-between, flip-between}
+use Rattle.bounds.proofs.Between.{result-between, sum-between, difference-between, product-between, share-between, flip-between}
 use Rattle.bounds.proofs.Rows.{at-rotation, sine-row, atan2-row, point-bounds, each}
 use Rattle.arcs.specs.How.{atan2}
+use Rattle.arcs.proofs.Bounds.{pi-units, atan2-bounds}
 use Rattle.commands.specs.Times.{periodPermitted}
 use Rattle.commands.specs.Command.{finiteCommand, permittedCommand}
 use Rattle.commands.specs.declared.Tripod.{Tripod}
@@ -114,42 +114,44 @@ rotation-permitted c h =
     let z = permits rows.direction (c .«step_height») in
     and-r (x && y) r (and-l (x && y && r) z h)
 
--- ---- the plan; `angle-most` says that atan2 gives no more than a half turn
-module _ (angle-most : (y x : Float) → T (permits rows.atan2Argument y) → T (permits rows.atan2Argument x) → Between 4 4 (atan2 y x)) where
-  turn-between : (a b : Point) → Level 8 a → PointBounds 4 b → Between 4 4 (turnBetween a b)
-  unfolding turnBetween
-  turn-between a b p q = by-test (isZero a || isZero b)
-    where
-      by-test : (t : Bool) → Between 4 4 (choose t nought (atan2 (across a b) (along a b)))
-      by-test true = nought-between
-      by-test false = let w = turn-arguments a b p q in angle-most (across a b) (along a b) (w .first) (w .second)
+-- ---- the plan; atan2 gives no more than a half turn
+angle-most : (y x : Float) → Between 4 4 (atan2 y x)
+angle-most y x = let b = atan2-bounds y x in result-between 4 pi-units (atan2 y x) (b .held) (lit≤ tt) (b .units)
 
-  average-between : (s : Trio) (m : Point) (r : Trio) → TrioBounds s → Level 4 m → TrioBounds r → Between 4 4 (averageTurn s m r)
-  unfolding averageTurn
-  average-between s m r S M R =
-      third-between
-      (turn-between (between m (s .first)) (r .first) (way-level m (s .first) M (S .first)) (R .first))
-      (turn-between (between m (s .second)) (r .second) (way-level m (s .second) M (S .second)) (R .second))
-      (turn-between (between m (s .third)) (r .third) (way-level m (s .third) M (S .third)) (R .third))
+turn-between : (a b : Point) → Between 4 4 (turnBetween a b)
+unfolding turnBetween
+turn-between a b = by-test (isZero a || isZero b)
+  where
+    by-test : (t : Bool) → Between 4 4 (choose t nought (atan2 (across a b) (along a b)))
+    by-test true = nought-between
+    by-test false = angle-most (across a b) (along a b)
 
-  pub plan-within : (start relaxed : Feet) (lifted : Tripod) (c : MoveCommand) → HeldFeet start → HeldFeet relaxed → T (fits binary32 (c .rotation)) → planRefusal start relaxed c ≡ 0 → PlanArguments start relaxed lifted c
-  unfolding planRefusal
-  plan-within start relaxed lifted c S R C e =
-      let h = none-refused (finiteFeet start && finiteFeet relaxed && finiteCommand c) (permittedFeet start && permittedFeet relaxed && permittedCommand c) (periodPermitted (c .«step_time»)) e in
-      let feet = and-l (permittedFeet start && permittedFeet relaxed) (permittedCommand c) h in
-      let s = feet-bounds start S (and-l (permittedFeet start) (permittedFeet relaxed) feet) in
-      let r = feet-bounds relaxed R (and-r (permittedFeet start) (permittedFeet relaxed) feet) in
-      let turn = at-rotation (c .rotation) C (rotation-permitted c (and-r (permittedFeet start && permittedFeet relaxed) (permittedCommand c) h)) in
-      let m = centre (summed lifted start) in
-      let M = centre-level (summed lifted start) (summed-bounds start s lifted) in
-      let i = row-bounds start s lifted in
-      let j = row-bounds relaxed r lifted in
-      let average = average-between (inRow lifted start) m (inRow lifted relaxed) i M j in
-      let undone = share-between 2 2 two (flip-between turn) two-value (lit< tt) (lit< tt) in
-      record {
-        lifted-turn = sine-row (share-between 2 2 two turn two-value (lit< tt) (lit< tt)) (lit≤ tt) (lit≤ tt);
-        standing-turn = sine-row (sum-between average undone (lit< tt) (lit< tt)) (lit≤ tt) (lit≤ tt);
-        first = turn-arguments (between m ((inRow lifted start) .first)) ((inRow lifted relaxed) .first) (way-level m ((inRow lifted start) .first) M (i .first)) (j .first);
-        second = turn-arguments (between m ((inRow lifted start) .second)) ((inRow lifted relaxed) .second) (way-level m ((inRow lifted start) .second) M (i .second)) (j .second);
-        third = turn-arguments (between m ((inRow lifted start) .third)) ((inRow lifted relaxed) .third) (way-level m ((inRow lifted start) .third) M (i .third)) (j .third);
-      }
+average-between : (s : Trio) (m : Point) (r : Trio) → Between 4 4 (averageTurn s m r)
+unfolding averageTurn
+average-between s m r =
+    third-between
+    (turn-between (between m (s .first)) (r .first))
+    (turn-between (between m (s .second)) (r .second))
+    (turn-between (between m (s .third)) (r .third))
+
+pub plan-within : (start relaxed : Feet) (lifted : Tripod) (c : MoveCommand) → HeldFeet start → HeldFeet relaxed → T (fits binary32 (c .rotation)) → planRefusal start relaxed c ≡ 0 → PlanArguments start relaxed lifted c
+unfolding planRefusal
+plan-within start relaxed lifted c S R C e =
+    let h = none-refused (finiteFeet start && finiteFeet relaxed && finiteCommand c) (permittedFeet start && permittedFeet relaxed && permittedCommand c) (periodPermitted (c .«step_time»)) e in
+    let feet = and-l (permittedFeet start && permittedFeet relaxed) (permittedCommand c) h in
+    let s = feet-bounds start S (and-l (permittedFeet start) (permittedFeet relaxed) feet) in
+    let r = feet-bounds relaxed R (and-r (permittedFeet start) (permittedFeet relaxed) feet) in
+    let turn = at-rotation (c .rotation) C (rotation-permitted c (and-r (permittedFeet start && permittedFeet relaxed) (permittedCommand c) h)) in
+    let m = centre (summed lifted start) in
+    let M = centre-level (summed lifted start) (summed-bounds start s lifted) in
+    let i = row-bounds start s lifted in
+    let j = row-bounds relaxed r lifted in
+    let average = average-between (inRow lifted start) m (inRow lifted relaxed) in
+    let undone = share-between 2 2 two (flip-between turn) two-value (lit< tt) (lit< tt) in
+    record {
+      lifted-turn = sine-row (share-between 2 2 two turn two-value (lit< tt) (lit< tt)) (lit≤ tt) (lit≤ tt);
+      standing-turn = sine-row (sum-between average undone (lit< tt) (lit< tt)) (lit≤ tt) (lit≤ tt);
+      first = turn-arguments (between m ((inRow lifted start) .first)) ((inRow lifted relaxed) .first) (way-level m ((inRow lifted start) .first) M (i .first)) (j .first);
+      second = turn-arguments (between m ((inRow lifted start) .second)) ((inRow lifted relaxed) .second) (way-level m ((inRow lifted start) .second) M (i .second)) (j .second);
+      third = turn-arguments (between m ((inRow lifted start) .third)) ((inRow lifted relaxed) .third) (way-level m ((inRow lifted start) .third) M (i .third)) (j .third);
+    }

@@ -5,7 +5,7 @@ use mathlib.Core.List.{[], _∷_}
 use Rattle.numbers.specs.Told.{Told, answer}
 use Rattle.numbers.specs.Door.{unless, firstOf}
 use Rattle.numbers.specs.Limits.{foot as footLimit}
-use Rattle.legs.specs.Legs.{Leg, foot, every, finitePoint, permittedPoint}
+use Rattle.legs.specs.Legs.{foot, every, finitePoint, permittedPoint}
 use Rattle.legs.specs.Answers.{givenFeet}
 use Rattle.legs.specs.declared.Feet.{Feet}
 use Rattle.commands.specs.Times.{periodPermitted}

@@ -1,7 +1,6 @@
 -- Document 01, "Steps": "The planner follows 000." "Start vectors are taken from the start's centre, relaxed ones are not: keep that."
 -- One definition over the lifted tripod. The two orders of summation are the source's, and both show in the bits.
-use mathlib.Core.Bool.{Bool, not}
-use mathlib.Core.List.{List}
+use mathlib.Core.Bool.{Bool}
 use lib.Ieee.{Float, binary32, add, sub, div, neg}
 use Rattle.numbers.specs.Told.{choose}
 use Rattle.numbers.specs.Limits.{over}

@@ -9,10 +9,9 @@ use Rattle.legs.specs.declared.Point.{Point}
 use Rattle.legs.specs.declared.Feet.{Feet}
 use Rattle.moves.specs.Moving.{pointOf, hasMoved, feetOf, oneMoved}
 use Rattle.moves.specs.declared.MoveStep.{MoveStep}
-use Rattle.moves.specs.declared.FeetStep.{FeetStep}
 use Rattle.moves.specs.declared.FeetStep.the-variants.{Moved, Arrived}
 use Rattle.steps.specs.Leg.{stepLiftedLeg}
-use Rattle.steps.specs.Shift.{heightOf, legStep, together, shiftLegs}
+use Rattle.steps.specs.Shift.{heightOf, legStep, shiftLegs}
 use Rattle.steps.specs.declared.Lift.{Lift}
 
 -- the flag does not change the feet

@@ -1,6 +1,6 @@
 -- What is told of an answer on steps loses nothing of it, so no second answer fits a contract stated by it.
 use mathlib.Core.Path.{_≡_, refl, sym, ap, ap₂, _∙_}
-use mathlib.Core.Bool.{Bool, true, false}
+use mathlib.Core.Bool.{Bool}
 use mathlib.Core.List.{List, [], _∷_, _++_}
 use Prim.Native.Nat.{ℕ}
 use native.Mathlib.Omega.{arith}
@@ -18,7 +18,7 @@ use Rattle.commands.proofs.OneAnswer.{flag-of-mark}
 use Rattle.commands.specs.declared.Time.{Time}
 use Rattle.commands.specs.declared.Tripod.{Tripod}
 use Rattle.commands.specs.declared.Tripod.the-variants.{LRL, RLR}
-use Rattle.steps.specs.Answers.{course, stepMarks, stepValues, liftMarks, liftValues, timedMarks, timedValues, evenMarks, evenValues, toldStepIter, toldTimedIter, toldEvenIter, toldNextStep, toldNextTimed, toldNextEven}
+use Rattle.steps.specs.Answers.{course, stepMarks, stepValues, liftMarks, timedMarks, timedValues, evenMarks, evenValues, toldStepIter, toldTimedIter, toldEvenIter, toldNextStep, toldNextTimed, toldNextEven}
 use Rattle.steps.specs.declared.Lift.{Lift}
 use Rattle.steps.specs.declared.StepIterator.{StepIterator}
 use Rattle.steps.specs.declared.TimedStepIterator.{TimedStepIterator}

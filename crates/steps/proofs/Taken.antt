@@ -1,5 +1,5 @@
 -- What a step taken holds: the feet are those of the six legs, the state after remembers them, and nothing else of it changed.
-use mathlib.Core.Path.{_≡_, refl, ap}
+use mathlib.Core.Path.{_≡_}
 use mathlib.Core.Bool.{Bool, true, false}
 use Rattle.numbers.specs.Told.{choose}
 use Rattle.legs.specs.declared.Feet.{Feet}
@@ -14,11 +14,8 @@ use Rattle.steps.specs.Next.{stepEnded, timedEnded, evenEnded, stepLift,
 use Rattle.steps.specs.declared.StepIterator.{StepIterator}
 use Rattle.steps.specs.declared.TimedStepIterator.{TimedStepIterator}
 use Rattle.steps.specs.declared.EvenStepIterator.{EvenStepIterator}
-use Rattle.steps.specs.declared.NextStep.{NextStep}
 use Rattle.steps.specs.declared.NextStep.the-variants.{Step, NoStep}
-use Rattle.steps.specs.declared.NextTimed.{NextTimed}
 use Rattle.steps.specs.declared.NextTimed.the-variants.{Step as TimedStep, NoStep as NoTimedStep}
-use Rattle.steps.specs.declared.NextEven.{NextEven}
 use Rattle.steps.specs.declared.NextEven.the-variants.{Step as EvenStep, NoStep as NoEvenStep}
 
 -- by distance

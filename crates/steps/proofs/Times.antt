@@ -1,13 +1,11 @@
 -- Times as f32: never below zero, never a NaN; and a permitted period is a number above zero, so that it can divide.
 use mathlib.Core.Path.{_≡_, refl, sym, ap, _∙_, subst}
-use mathlib.Core.Logic.{_⊎_, inl, inr}
-use mathlib.Core.Bool.{Bool, true, false, not, cond, _&&_, true≢false}
-use Prim.Native.Nat.{ℕ, zero, suc, _+_, _*_, _^_, _≤_, _<_, min}
-use native.Mathlib.Nat.{le-trans, le-of-eq, lt-of-le-of-lt, lt-of-lt-of-le, mul-le-mul-right, mul-right-comm, mul-one, one-mul, mul-pos, zero-lt-suc, zero-mul, lt-irrefl}
+use mathlib.Core.Bool.{Bool, true, false, cond, _&&_, true≢false}
+use Prim.Native.Nat.{ℕ, zero, suc, _+_, _*_, _^_, _≤_, _<_}
+use native.Mathlib.Nat.{le-trans, le-of-eq, lt-of-le-of-lt, lt-of-lt-of-le, mul-le-mul-right, mul-right-comm, mul-one, one-mul, mul-pos, zero-mul, lt-irrefl}
 use native.Mathlib.Omega.{arith}
 use borrow.Author.Tests.{ltb-true, leb-true, eqb-true}
-use lib.Dec.{T, ltb, leb, eqb, lit<, lit≤}
-use lib.IntN.{ℤ}
+use lib.Dec.{ltb, leb, eqb, lit<, lit≤}
 use lib.Ieee.{Float, nan, inf, fin, Format, binary32, prec, emax, low, up, down, odd, units, round, sum, add, div}
 use lib.Ieee.Exact.{HasValue}
 use lib.Ieee.Back.{round-whole}

@@ -3,7 +3,6 @@ use mathlib.Core.Bool.{Bool}
 use lib.Ieee.{Float, eq, le}
 use Rattle.numbers.specs.Told.{choose}
 use Rattle.numbers.specs.Limits.{over}
-use Rattle.legs.specs.declared.Feet.{Feet}
 use Rattle.moves.specs.Distance.{maxHorizontalDistance}
 use Rattle.moves.specs.declared.FeetStep.{FeetStep}
 use Rattle.moves.specs.declared.FeetStep.the-variants.{Moved, Arrived}
