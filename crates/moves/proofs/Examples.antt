@@ -1,12 +1,11 @@
 -- Document 01's cases p1 to p6, by computation: one step.
 use mathlib.Core.Path.{_≡_, refl}
-use lib.Ieee.{Float, binary32, round, add, sub, mul, div, le, eq}
+use lib.Ieee.{Float, add, sub, mul, div, le, eq}
 use Rattle.numbers.specs.Limits.{over, minus}
 use Rattle.roots.specs.Root.{squareRoot}
 use Rattle.legs.specs.declared.Point.{Point}
 use Rattle.moves.specs.Distance.{same, squareSum, distance}
 use Rattle.moves.specs.Moving.{component, along, nearer, stepAt, moveTowards}
-use Rattle.moves.specs.declared.MoveStep.{MoveStep}
 use Rattle.moves.specs.declared.MoveStep.the-variants.{Moved, Arrived}
 
 abbrev pub at : Float → Float → Float → Point

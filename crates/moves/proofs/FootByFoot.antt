@@ -9,7 +9,6 @@ use Rattle.legs.specs.declared.Point.{Point}
 use Rattle.legs.specs.declared.Feet.{Feet}
 use Rattle.moves.specs.Moving.{moveTowards, pointOf, hasMoved, moveFeetTowards, feetOf, oneMoved}
 use Rattle.moves.specs.declared.MoveStep.{MoveStep}
-use Rattle.moves.specs.declared.FeetStep.{FeetStep}
 use Rattle.moves.specs.declared.FeetStep.the-variants.{Moved as FeetMoved, Arrived as FeetArrived}
 
 -- the flag does not change the feet

@@ -4,12 +4,12 @@ use mathlib.Core.Path.{_≡_, refl, sym, ap, ap₂, _∙_, subst}
 use mathlib.Core.Bool.{Bool, true, false, not, cond}
 use mathlib.Core.List.{List, [], _∷_}
 use Prim.Native.Nat.{ℕ, zero, suc, _+_, _*_, _^_, _≤_, _<_}
-use native.Mathlib.Nat.{le-trans, le-of-eq, le-of-lt, le-antisymm}
+use native.Mathlib.Nat.{le-trans, le-of-eq, le-antisymm}
 use native.Mathlib.Omega.{arith}
-use lib.IntN.{ℤ, pos}
+use lib.IntN.{ℤ}
 use lib.Dec.{T, ltb}
 use lib.Ieee.{Float, nan, inf, fin, binary32, Format, prec, emax, low, up, down, odd, units, round, sum, add, sub, mul, lt, fits}
-use lib.Ieee.Fits.{round-is, add-fits, mul-fits}
+use lib.Ieee.Fits.{round-is, add-fits}
 use lib.Ieee.Exact.{HasValue}
 use Rattle.numbers.specs.Told.{choose}
 use Rattle.legs.specs.Legs.{Leg, leftFront, rightFront, leftMiddle, rightMiddle, leftRear, rightRear, row, foot}
@@ -17,7 +17,7 @@ use Rattle.legs.specs.declared.Point.{Point}
 use Rattle.legs.specs.declared.Feet.{Feet}
 use Rattle.moves.specs.Distance.{apart², squareSum, horizontalSum, distance, horizontalDistance, largestFrom, largest, longestDistance, maxHorizontalDistance}
 use Rattle.numbers.specs.Finite.{greater}
-use Rattle.units.specs.Units.{unity, hi, lo, mag}
+use Rattle.units.specs.Units.{unity, hi}
 use Rattle.units.proofs.Values.{plus-part, lo-is, mag-is}
 use Rattle.units.proofs.Order.{lt-part, not-lt-part}
 use Rattle.units.proofs.Patterns.{one-value}

@@ -1,6 +1,6 @@
 -- What is told of an answer on moves loses nothing of it, so no second answer fits a contract stated by it.
 use mathlib.Core.Path.{_≡_, refl, sym, ap, ap₂, _∙_}
-use mathlib.Core.List.{List, [], _∷_, _++_}
+use mathlib.Core.List.{List, [], _∷_}
 use Prim.Native.Nat.{ℕ}
 use native.Mathlib.Omega.{arith}
 use lib.ListN.{getD, take, drop}
@@ -10,7 +10,7 @@ use Rattle.legs.specs.Legs.{coordinates, nowhere}
 use Rattle.legs.proofs.OneAnswer.{points-from-values, feet-from-values}
 use Rattle.legs.specs.declared.Point.{Point}
 use Rattle.legs.specs.declared.Feet.{Feet}
-use Rattle.moves.specs.Answers.{ofFeet, toldStep, told, toldFeetStep, toldFeet, ofMovingPoint, ofMovingFeet, toldPointIter, toldFeetIter, toldNextPoint, toldNextFeet}
+use Rattle.moves.specs.Answers.{toldStep, told, toldFeetStep, toldFeet, ofMovingPoint, ofMovingFeet, toldPointIter, toldFeetIter, toldNextPoint, toldNextFeet}
 use Rattle.moves.specs.Iterators.{movingPoint, movingFeet}
 use Rattle.moves.specs.declared.MoveStep.{MoveStep}
 use Rattle.moves.specs.declared.MoveStep.the-variants.{Moved, Arrived}

@@ -1,11 +1,10 @@
 -- The sum of squares in units. What the door lets in gives a sum within the root's own limit, so a step hands the root nothing that the root's door refuses.
-use mathlib.Core.Path.{_≡_, refl, sym, subst}
 use mathlib.Core.Bool.{false, _&&_}
 use Prim.Native.Nat.{ℕ, _+_, _-_, _*_, _^_, _≤_, _<_, zero-le}
 use native.Mathlib.Nat.{le-trans, lt-of-le-of-lt, mul-pos, mul-le-mul, mul-lt-mul-of-pos-right, add-le-add}
 use native.Mathlib.Omega.{arith}
 use lib.Dec.{T, lit<, lit≤}
-use lib.Ieee.{Float, binary32, add, sub, mul, le, fits}
+use lib.Ieee.{Float, binary32, sub, mul, le, fits}
 use lib.Ieee.Fits.{and-i, and-l, and-r}
 use lib.Ieee.Exact.{HasValue}
 use lib.Ieee.Scale.{overflow}

@@ -1,14 +1,11 @@
 -- A step, by its two tests: at the target it stands; within max move of it, it goes there; else it goes along.
-use mathlib.Core.Path.{_≡_, refl, sym, ap, _∙_}
+use mathlib.Core.Path.{_≡_, refl}
 use mathlib.Core.Bool.{Bool, true, false, not}
-use Prim.Native.Nat.{ℕ}
-use native.Mathlib.Omega.{arith}
 use lib.Ieee.{Float, le}
 use Rattle.numbers.specs.Told.{choose}
 use Rattle.legs.specs.declared.Point.{Point}
 use Rattle.moves.specs.Distance.{same, distance}
-use Rattle.moves.specs.Moving.{along, nearer, stepAt, moveTowards, pointOf, hasMoved}
-use Rattle.moves.specs.declared.MoveStep.{MoveStep}
+use Rattle.moves.specs.Moving.{along, nearer, stepAt, moveTowards, hasMoved}
 use Rattle.moves.specs.declared.MoveStep.the-variants.{Moved, Arrived}
 
 module _ (l t : Point) (m : Float) where

@@ -4,7 +4,7 @@ use mathlib.Core.List.{List, [], _∷_}
 use lib.Ieee.{Float, nan, binary32, add, sub, mul, eq}
 use Rattle.numbers.specs.Finite.{greater}
 use Rattle.roots.specs.Root.{squareRoot}
-use Rattle.legs.specs.Legs.{Leg, row, foot}
+use Rattle.legs.specs.Legs.{row, foot}
 use Rattle.legs.specs.declared.Point.{Point}
 use Rattle.legs.specs.declared.Feet.{Feet}
 

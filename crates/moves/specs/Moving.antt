@@ -2,7 +2,7 @@
 use mathlib.Core.Bool.{Bool, true, false}
 use lib.Ieee.{Float, binary32, add, sub, mul, div, le}
 use Rattle.numbers.specs.Told.{choose}
-use Rattle.legs.specs.Legs.{Leg, foot, feet, some}
+use Rattle.legs.specs.Legs.{foot, feet, some}
 use Rattle.legs.specs.declared.Point.{Point}
 use Rattle.legs.specs.declared.Feet.{Feet}
 use Rattle.moves.specs.Distance.{same, distance}

@@ -5,7 +5,7 @@ use mathlib.Core.List.{[], _∷_}
 use lib.Ieee.{Float}
 use Rattle.numbers.specs.Door.{finite, permits, unless, firstOf}
 use Rattle.numbers.specs.Limits.{foot as footLimit, maxMove}
-use Rattle.legs.specs.Legs.{Leg, foot, every, finitePoint, permittedPoint}
+use Rattle.legs.specs.Legs.{foot, every, finitePoint, permittedPoint}
 use Rattle.legs.specs.declared.Point.{Point}
 use Rattle.legs.specs.declared.Feet.{Feet}
 

@@ -4,7 +4,7 @@ use mathlib.Core.Bool.{false}
 use lib.Dec.{T}
 use lib.Ieee.{Float, binary32, fits}
 use lib.Ieee.Exact.{HasValue}
-use Rattle.units.specs.Units.{Units, unity, hi, lo, mag}
+use Rattle.units.specs.Units.{unity, hi, lo, mag}
 use Rattle.units.proofs.Held.{Single}
 use Rattle.legs.specs.declared.Point.{Point}
 use Rattle.moves.specs.Distance.{Each}

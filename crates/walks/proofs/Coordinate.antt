@@ -1,14 +1,13 @@
 -- One coordinate of a step that goes along, in units: what it is made of, how far it goes, and that nothing in it overflows.
 -- The last point is pl - nl units, the target pt - nt, the distance Q, the max move M.
-use mathlib.Core.Path.{_≡_, refl, sym, ap, _∙_, subst}
+use mathlib.Core.Path.{_≡_, ap, _∙_}
 use mathlib.Core.Logic.{_⊎_, inl, inr}
-use Prim.Native.Nat.{ℕ, zero, suc, _+_, _-_, _*_, _^_, _≤_, _<_, zero-le}
-use native.Mathlib.Nat.{le-trans, le-of-eq, le-of-lt, lt-of-le-of-lt, lt-of-lt-of-le, mul-pos, mul-le-mul, zero-mul}
+use Prim.Native.Nat.{ℕ, _+_, _-_, _*_, _^_, _≤_, _<_}
+use native.Mathlib.Nat.{le-trans, le-of-lt, lt-of-le-of-lt, mul-pos, mul-le-mul, zero-mul}
 use native.Mathlib.Omega.{arith}
 use mathlib.Core.Bool.{Bool, true, false, not}
 use lib.Dec.{T, leb, leb→le, nleb→lt, lit<, lit≤}
-use lib.Pow.{pow-pos}
-use lib.Ieee.{Float, nan, inf, fin, binary32, add, sub, mul, div, le}
+use lib.Ieee.{Float, binary32, sub, mul, div}
 use lib.Ieee.Exact.{HasValue}
 use lib.Ieee.Scale.{overflow}
 use Rattle.units.specs.Units.{Part, gap, rounded, unity}

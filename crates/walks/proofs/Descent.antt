@@ -1,21 +1,18 @@
 -- THE DESCENT: a step that goes along lowers S, the exact sum of the three differences in units, by half of the max move at least.
 -- Only the largest difference counts: it falls by 9/16 of the max move but for rounding, and no other rises by more than rounding.
-use mathlib.Core.Path.{_≡_, refl, sym, ap, _∙_, subst}
+use mathlib.Core.Path.{_≡_, sym, ap, _∙_, subst}
 use mathlib.Core.Logic.{_⊎_, inl, inr}
-use Prim.Native.Nat.{ℕ, _+_, _-_, _*_, _^_, _≤_, _<_, zero-le}
-use native.Mathlib.Nat.{le-trans, le-of-lt, lt-of-le-of-lt, add-le-add}
+use Prim.Native.Nat.{ℕ, _+_, _-_, _*_, _≤_, _<_, zero-le}
+use native.Mathlib.Nat.{le-trans, le-of-lt, lt-of-le-of-lt}
 use native.Mathlib.Omega.{arith}
 use mathlib.Core.Bool.{false, not}
-use lib.Dec.{T, lit<, lit≤}
-use lib.Ieee.{Float, binary32, sub, le}
+use lib.Dec.{T, lit≤}
+use lib.Ieee.{Float, binary32, le}
 use lib.Ieee.Exact.{HasValue}
-use lib.Ieee.Scale.{overflow}
-use Rattle.units.specs.Units.{Part, Units, unity, hi, lo, mag, gap, apart, rounded}
+use Rattle.units.specs.Units.{Part, Units, unity, hi, lo, mag, gap, apart}
 use Rattle.units.proofs.Values.{hi-is, lo-is, units-of, one-side}
-use Rattle.units.proofs.Add.{sub-part}
 use Rattle.units.proofs.Order.{not-le-values}
-use Rattle.units.proofs.Errors.{unity-pos, sum-le}
-use Rattle.units.proofs.Held.{Single}
+use Rattle.units.proofs.Errors.{unity-pos}
 use Rattle.roots.proofs.Laws.{Rooted}
 use Rattle.legs.specs.declared.Point.{Point}
 use Rattle.moves.specs.Distance.{Each, distance}

@@ -1,7 +1,7 @@
 -- What the door lets in is within reach: coordinates to 2 m and a max move from 1/1024 m are.
 use mathlib.Core.Path.{_≡_}
-use mathlib.Core.Bool.{Bool, true, _&&_}
-use Prim.Native.Nat.{ℕ, _*_, _^_, _≤_}
+use mathlib.Core.Bool.{Bool, _&&_}
+use Prim.Native.Nat.{_*_, _^_, _≤_}
 use native.Mathlib.Nat.{le-trans}
 use lib.Dec.{T, lit≤}
 use lib.Ieee.{Float}

@@ -1,7 +1,6 @@
 -- Document 01's case p7, by computation: p1's walk, from (0,0,0) to (1/4,0,0) by 1/8, has the count 2.
-use mathlib.Core.Path.{_≡_, refl}
 use mathlib.Core.Bool.{not}
-use Prim.Native.Nat.{ℕ, zero, suc, _+_, _*_, _^_, _≤_, _<_}
+use Prim.Native.Nat.{ℕ, zero, suc, _≤_, _<_}
 use native.Mathlib.Omega.{arith}
 use lib.Dec.{T, lit≤}
 use lib.Ieee.{add, sub, mul, div, le, eq}

@@ -1,24 +1,21 @@
 -- Six feet walk as six single ones: each foot's way is its own walk, an arrived foot stays, and the largest count is the six feet's.
 use mathlib.Core.Path.{_≡_, refl, sym, ap, _∙_, subst}
 use mathlib.Core.Logic.{_⊎_, inl, inr, ⊎-elim}
-use mathlib.Core.List.{List, [], _∷_}
-use Prim.Native.Nat.{ℕ, zero, suc, _+_, _-_, _*_, _≤_, _<_}
+use Prim.Native.Nat.{ℕ, zero, suc, _-_, _*_, _≤_, _<_}
 use native.Mathlib.Nat.{le-trans, le-of-lt, le-refl, eq-or-lt-of-le, lt-of-lt-of-le, le-of-eq}
 use native.Mathlib.Omega.{arith}
-use mathlib.Core.Bool.{Bool, true, false, not, _&&_}
+use mathlib.Core.Bool.{Bool, true, false, _&&_}
 use borrow.Author.Tests.{ltb-true, ltb-false}
 use lib.Dec.{T, T-not, not-T, ltb, eqb, eqb-refl}
 use lib.Ieee.{Float, nan, inf, fin, up, down, eq}
 use lib.Ieee.Fits.{and-i, and-l, and-r}
 use lib.Ieee.Bits.{is-true}
 use Rattle.numbers.specs.Told.{choose}
-use Rattle.units.proofs.Door.{holds}
 use Rattle.legs.specs.Legs.{Leg, leftFront, rightFront, leftMiddle, rightMiddle, leftRear, rightRear, row, foot, every}
 use Rattle.legs.specs.declared.Point.{Point}
 use Rattle.legs.specs.declared.Feet.{Feet}
 use Rattle.moves.specs.Distance.{same}
 use Rattle.moves.specs.Moving.{moveTowards, pointOf}
-use Rattle.moves.specs.declared.MoveStep.the-variants.{Arrived}
 use Rattle.moves.proofs.Steps.{stands}
 use Rattle.moves.proofs.FootByFoot.{each-foot}
 use Rattle.walks.specs.Walk.{pointAfter, feetAfter, Walk, WalkFeet, larger, largest, allArrived}

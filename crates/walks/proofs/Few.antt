@@ -1,7 +1,6 @@
 -- How many steps a walk can have at most: 147,457 within reach, and 24,577 within document 01's table, a number of five digits.
-use mathlib.Core.Path.{_≡_, sym, subst}
-use Prim.Native.Nat.{ℕ, _+_, _*_, _^_, _≤_, _<_}
-use native.Mathlib.Nat.{le-trans, mul-le-mul-left, le-of-mul-le-mul-right}
+use Prim.Native.Nat.{ℕ, _+_, _*_, _≤_, _<_}
+use native.Mathlib.Nat.{mul-le-mul-left, le-of-mul-le-mul-right}
 use native.Mathlib.Omega.{arith}
 
 -- k * M ≤ 2 * S + M, where 2 * S is at most n times the least M

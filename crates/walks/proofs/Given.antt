@@ -1,12 +1,11 @@
 -- From what a walk asks of its numbers to what the facts stand on. That the format holds a number, the machine knows.
 use mathlib.Core.Path.{_≡_, sym, subst}
 use mathlib.Core.Bool.{false}
-use Prim.Native.Nat.{ℕ, _+_, _*_, _^_, _≤_, _<_}
+use Prim.Native.Nat.{ℕ, _+_, _*_, _^_, _≤_}
 use native.Mathlib.Nat.{le-trans, le-of-eq, lt-of-lt-of-le}
 use native.Mathlib.Omega.{arith}
-use lib.Dec.{T}
 use lib.Pow.{pow-pos}
-use lib.Ieee.{Float, binary32, fits}
+use lib.Ieee.{Float, binary32}
 use lib.Ieee.Exact.{HasValue}
 use Rattle.units.specs.Units.{unity, hi, lo, mag, apart, gap}
 use Rattle.units.proofs.Values.{positive-value, mag-is, mag-parts}
@@ -14,7 +13,6 @@ use Rattle.units.proofs.Held.{Single}
 use Rattle.units.proofs.Door.{finite-single}
 use Rattle.legs.specs.declared.Point.{Point}
 use Rattle.moves.specs.Distance.{Each}
-use Rattle.walks.specs.Walk.{spread}
 use Rattle.walks.specs.Reach.{AtMost, Reach}
 use Rattle.walks.proofs.Aim.{Fit, Parts, Aim, OnWay}
 

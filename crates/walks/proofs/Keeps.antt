@@ -1,8 +1,8 @@
 -- One coordinate of a step that goes along: it does not turn away from its target, it passes it by at most 51 * 2 ^ -24 (which is below 2 ^ -18),
 -- and where it equals its target it stays. So it stays between its start and its target, but for that much.
-use mathlib.Core.Path.{_≡_, refl, sym, ap, _∙_, subst}
+use mathlib.Core.Path.{_≡_, sym, ap, _∙_}
 use mathlib.Core.Logic.{_⊎_, inl, inr}
-use Prim.Native.Nat.{ℕ, _+_, _-_, _*_, _^_, _≤_, _<_, zero-le}
+use Prim.Native.Nat.{ℕ, _+_, _-_, _*_, _≤_, _<_, zero-le}
 use native.Mathlib.Nat.{le-trans, le-of-eq, le-of-lt, lt-of-le-of-lt}
 use native.Mathlib.Omega.{arith}
 use mathlib.Core.Bool.{false, not}
@@ -10,7 +10,7 @@ use lib.Dec.{T}
 use lib.Ieee.{Float, binary32, add, sub, mul, div, le}
 use lib.Ieee.Fits.{add-fits}
 use lib.Ieee.Exact.{HasValue}
-use Rattle.units.specs.Units.{Part, Units, unity, hi, lo, mag, gap, apart, rounded}
+use Rattle.units.specs.Units.{Part, Units, unity, hi, lo, mag, apart, rounded}
 use Rattle.units.proofs.Values.{hi-is, lo-is, one-side, part-finite}
 use Rattle.units.proofs.Errors.{Within, unity-pos, rounded-mono, rounded-zero, sum-abs}
 use Rattle.units.proofs.Held.{Single, single}
@@ -21,7 +21,7 @@ use Rattle.walks.proofs.Arithmetic.{move-up}
 use Rattle.moves.proofs.Squares.{diff, size, less-32}
 use Rattle.walks.proofs.Coordinate.{move, next, coord-part, moves, move-zero, diff-zero, sum-p, sum-n, δ, total}
 use Rattle.walks.proofs.Aim.{Fit, Aim, OnWay}
-use Rattle.walks.proofs.Descent.{reach, parts-lt, measured, near, lowers}
+use Rattle.walks.proofs.Descent.{reach, parts-lt, measured, near}
 
 -- ---- on parts: the move is H upwards
 pub adv : (pl nl Hp Hn : ℕ) → (pl ≡ 0) ⊎ (nl ≡ 0) → Hn ≡ 0 → rounded pl unity ≡ pl → rounded nl unity ≡ nl → pl + rounded (nl + Hn - (pl + Hp)) unity ≤ nl + rounded (pl + Hp - (nl + Hn)) unity

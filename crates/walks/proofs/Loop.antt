@@ -1,11 +1,11 @@
 -- The walk's loop: what holds after k steps, what one more does to it, that k stays small, and what it says at the end.
 use mathlib.Core.Path.{_≡_, refl, sym, ap, _∙_, subst}
 use mathlib.Core.Logic.{_⊎_, inl, inr, ⊎-elim}
-use Prim.Native.Nat.{ℕ, zero, suc, _+_, _*_, _^_, _≤_, _<_}
+use Prim.Native.Nat.{ℕ, _+_, _*_, _^_, _≤_, _<_}
 use native.Mathlib.Nat.{eq-or-lt-of-le, lt-of-lt-of-le}
 use native.Mathlib.Numerals.{add-one}
 use native.Mathlib.Omega.{arith}
-use mathlib.Core.Bool.{Bool, true, false, not}
+use mathlib.Core.Bool.{Bool, not}
 use lib.Dec.{T}
 use lib.Pow.{pow-pos}
 use lib.Ieee.{Float}
@@ -14,13 +14,12 @@ use Rattle.units.proofs.Door.{holds}
 use Rattle.legs.specs.declared.Point.{Point}
 use Rattle.moves.specs.Distance.{same}
 use Rattle.moves.specs.Moving.{moveTowards, pointOf}
-use Rattle.moves.specs.declared.MoveStep.{MoveStep}
 use Rattle.moves.specs.declared.MoveStep.the-variants.{Moved, Arrived}
 use Rattle.moves.proofs.Steps.{was-elsewhere, was-there}
 use Rattle.walks.specs.Walk.{pointAfter, spread, Walk}
 use Rattle.walks.proofs.Aim.{Aim, OnWay}
 use Rattle.walks.proofs.Few.{most-steps}
-use Rattle.walks.proofs.Steps.{Moves, moved}
+use Rattle.walks.proofs.Steps.{moved}
 
 -- after k steps from s the walk is at l
 pub record Going (m : Float) (s t l : Point) (k : ℕ) : Type 0 where

@@ -1,18 +1,18 @@
 -- Two f32s that are close, in units: the larger is above the smaller by one part in 2 ^ 24 at least, and the difference of two that are near each other is
 -- an f32 itself. And a quotient by more, times less, is no more than what was divided.
 use mathlib.Core.Path.{_≡_, refl, sym, ap, ap₂, _∙_, subst}
-use mathlib.Core.Logic.{_⊎_, inl, inr}
+use mathlib.Core.Logic.{inl, inr}
 use Prim.Native.Nat.{ℕ, zero, suc, _+_, _-_, _*_, _/_, _^_, _≤_, _<_, zero-le}
-use native.Mathlib.Nat.{add-mul, mul-one, eq-zero-or-pos, eq-or-lt-of-le, lt-of-not-le, not-le-of-lt, le-trans, le-of-eq, le-of-lt, lt-of-le-of-lt, lt-of-lt-of-le, mul-le-mul, mul-le-mul-left, mul-le-mul-right, mul-pos, mul-comm, mul-assoc, mul-left-comm, pow-succ', le-div-iff-mul-le, lt-of-mul-lt-mul-right, le-of-mul-le-mul-right, mul-lt-mul-of-pos-right}
+use native.Mathlib.Nat.{add-mul, mul-one, eq-zero-or-pos, eq-or-lt-of-le, lt-of-not-le, not-le-of-lt, le-trans, le-of-eq, lt-of-le-of-lt, lt-of-lt-of-le, mul-le-mul, mul-le-mul-right, mul-pos, mul-assoc, pow-succ', le-div-iff-mul-le, lt-of-mul-lt-mul-right, mul-lt-mul-of-pos-right}
 use native.Mathlib.Omega.{arith}
 use lib.Dec.{lit<, lit≤}
-use lib.Pow.{pow-add, pow-pos, pow-mono}
+use lib.Pow.{pow-add, pow-mono}
 use lib.Ieee.{binary32, size}
-use lib.Ieee.Digits.{size-lt, size-reaches, size-le}
+use lib.Ieee.Digits.{size-lt, size-reaches}
 use lib.Ieee.Order.{drop}
-use lib.Ieee.Scale.{grid, overflow}
+use lib.Ieee.Scale.{overflow}
 use Rattle.units.specs.Units.{unity, gap, rounded, Exact}
-use Rattle.units.proofs.Grid.{cell, cell-near, grid-mono, grid-zero, grid-abs, grid-le}
+use Rattle.units.proofs.Grid.{cell-near, grid-mono, grid-zero, grid-abs, grid-le}
 use Rattle.units.proofs.Held.{grid-exact}
 use Rattle.units.proofs.Digits.{Digits, multiple}
 use Rattle.units.proofs.Errors.{unity-pos}

@@ -1,15 +1,14 @@
 -- On parts: a coordinate passes its target by no more than it was away from it. Where the difference is an f32, the step does not pass the target at all;
 -- where it is not, the difference is at least a quarter of the target, and what rounding adds is far less.
-use mathlib.Core.Path.{_≡_, refl, sym, ap, ap₂, _∙_, subst}
+use mathlib.Core.Path.{_≡_, sym, ap, _∙_, subst}
 use mathlib.Core.Logic.{_⊎_, inl, inr}
 use Prim.Native.Nat.{ℕ, _+_, _-_, _*_, _^_, _≤_, _<_, zero-le}
-use native.Mathlib.Nat.{le-trans, le-of-eq, le-of-lt, lt-of-le-of-lt, eq-or-lt-of-le, add-zero}
+use native.Mathlib.Nat.{le-trans, le-of-eq, lt-of-le-of-lt, eq-or-lt-of-le}
 use native.Mathlib.Omega.{arith}
 use lib.Ieee.{binary32}
 use Rattle.units.specs.Units.{unity, gap, rounded, Exact}
-use Rattle.units.proofs.Grid.{grid-zero}
 use Rattle.units.proofs.Add.{sum-mono}
-use Rattle.units.proofs.Errors.{Summed, summed, unity-pos, rounded-zero}
+use Rattle.units.proofs.Errors.{Summed, summed, rounded-zero}
 use Rattle.units.proofs.Digits.{Digits}
 use Rattle.moves.proofs.Squares.{diff}
 use Rattle.walks.proofs.Coordinate.{move, next, move-zero, diff-zero, total}

@@ -1,6 +1,6 @@
 -- Within document 01's table a walk has at most 24,577 steps, a number of five digits: S is at most 12, and the max move at least 1/1024.
 use mathlib.Core.Path.{_≡_, sym}
-use mathlib.Core.Bool.{Bool, true, _&&_}
+use mathlib.Core.Bool.{_&&_}
 use Prim.Native.Nat.{ℕ, _+_, _*_, _^_, _≤_}
 use native.Mathlib.Nat.{le-trans, le-of-eq, lt-of-lt-of-le, le-add-right}
 use native.Mathlib.Omega.{arith}

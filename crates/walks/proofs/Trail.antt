@@ -1,10 +1,10 @@
 -- Every point of a walk: it is made of f32s; each coordinate lies between its start and its target, but for 51 * 2 ^ -24, which is below 2 ^ -18; no step takes
 -- a coordinate farther from its target; and one that equals its target stays so.
 -- And for a printer: each step before the count moves to the next point, and the one after it stands.
-use mathlib.Core.Path.{_≡_, refl, sym, ap, _∙_}
+use mathlib.Core.Path.{_≡_, sym, ap, _∙_}
 use Prim.Native.Nat.{ℕ, zero, suc, _≤_, _<_}
 use native.Mathlib.Omega.{arith}
-use mathlib.Core.Bool.{Bool, true, false, not}
+use mathlib.Core.Bool.{not}
 use lib.Dec.{T}
 use lib.Ieee.{Float, eq}
 use lib.Ieee.Bits.{is-false, is-true}
@@ -12,8 +12,8 @@ use Rattle.units.specs.Units.{apart}
 use Rattle.units.proofs.Order.{eq-of-apart, apart-of-eq, apart-comm}
 use Rattle.units.proofs.Held.{Single}
 use Rattle.legs.specs.declared.Point.{Point}
-use Rattle.moves.specs.Distance.{Each, same, distance}
-use Rattle.moves.specs.Moving.{moveTowards, pointOf, nearer}
+use Rattle.moves.specs.Distance.{Each, same}
+use Rattle.moves.specs.Moving.{moveTowards, pointOf}
 use Rattle.moves.specs.declared.MoveStep.the-variants.{Moved, Arrived}
 use Rattle.moves.proofs.Steps.{stands, moves}
 use Rattle.walks.specs.Walk.{pointAfter, Walk}

@@ -1,8 +1,8 @@
 -- No step inside a walk is refused: what the walk hands to a step stays within that step's limits, coordinates to 4 m and a max move from 0 to 1 m.
 -- (That the step then hands the root no more than the root's limit, `moves` shows of all that it takes.)
-use mathlib.Core.Path.{_≡_, refl, sym, subst}
+use mathlib.Core.Path.{_≡_, sym, subst}
 use mathlib.Core.Logic.{_⊎_, inl, inr}
-use mathlib.Core.Bool.{Bool, true, false, _&&_}
+use mathlib.Core.Bool.{_&&_}
 use Prim.Native.Nat.{ℕ, _+_, _*_, _^_, _≤_, _<_}
 use native.Mathlib.Omega.{arith}
 use lib.Dec.{T, lit≤}
@@ -13,8 +13,8 @@ use lib.Ieee.Fits.{and-i}
 use Rattle.numbers.specs.Door.{finite, permits}
 use Rattle.numbers.specs.Limits.{maxMove, foot as footLimit}
 use Rattle.numbers.specs.declared.door.Limit.{Limit}
-use Rattle.units.specs.Units.{Units, unity, hi, lo, mag}
-use Rattle.units.proofs.Values.{part-finite, one-side, units-of, hi-is, lo-is, plus-part}
+use Rattle.units.specs.Units.{Units, unity, hi, lo}
+use Rattle.units.proofs.Values.{part-finite, one-side}
 use Rattle.units.proofs.Order.{le-part}
 use Rattle.units.proofs.Held.{Single}
 use Rattle.units.proofs.Door.{Ends, finite-is}
