@@ -21,7 +21,7 @@ pub fn is_same(a: Point, b: Point) -> bool
 }
 
 // x², y², z² summed in that order, of the way from a to b.
-fn square_sum(a: Point, b: Point) -> f32
+pub fn square_sum(a: Point, b: Point) -> f32
     ensures { λ r. ⌜ r ≡ squareSum a b ⌝ }
 {
     let x = b.x - a.x;
@@ -58,7 +58,7 @@ fn along(d: f32, max_move: f32, last: Point, target: Point) -> Point
 }
 
 // The step of a point that is d away and not at its target.
-fn nearer(d: f32, last: Point, target: Point, max_move: f32) -> Point
+pub fn nearer(d: f32, last: Point, target: Point, max_move: f32) -> Point
     ensures { λ r. ⌜ r ≡ nearer d last target «max_move» ⌝ }
 {
     if d <= max_move {

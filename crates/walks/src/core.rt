@@ -1,12 +1,12 @@
 // The walks behind the door. They ask for numbers within reach, since from others a walk may never end.
 use legs::Feet;
 use legs::Point;
-use moves::MoveStep;
 ghost use mathlib.Core.Path.{_≡_};
 ghost use Rattle.walks.specs.Walk.{Walk, WalkFeet, larger};
 ghost use Rattle.walks.specs.Reach.{Reach, ReachFeet};
 
-// Each answer is fed back until none moves; the steps that moved are counted.
+// Each answer is fed back until none moves; the steps that moved are counted. A step is
+// `moves::core::move_towards`, in its parts.
 pub fn walk(max_move: f32, start: Point, target: Point) -> u32
     requires { ⌜ Reach «max_move» start target ⌝ }
     ensures { λ k. ⌜ Walk «max_move» start target k ⌝ }
@@ -14,16 +14,12 @@ pub fn walk(max_move: f32, start: Point, target: Point) -> u32
     let mut last = start;
     let mut count: u32 = 0;
     loop {
-        let step = moves::core::move_towards(last, target, max_move);
-        match step {
-            MoveStep::Moved(p) => {
-                last = p;
-                count += 1;
-            }
-            MoveStep::Arrived(_) => {
-                return count;
-            }
+        if moves::core::is_same(last, target) {
+            return count;
         }
+        let d = roots::core::square_root(moves::core::square_sum(last, target));
+        last = moves::core::nearer(d, last, target, max_move);
+        count += 1;
     }
 }
 
