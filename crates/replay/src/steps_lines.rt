@@ -311,10 +311,11 @@ pub fn plan(s: &[u8]) -> Out {
     let t = tripod(s, relaxed.next);
     let c = command(s, t.next);
     if fields::done(s, c.next) {
+        let lifted = t.value;
         legs_lines::planned(hopper::steps::step_with_relaxed_transformation(
             start.value,
             relaxed.value,
-            t.value,
+            lifted,
             c.value,
         ))
     } else {
