@@ -7,7 +7,7 @@ use lines::record::Asked;
 use listing::block;
 use listing::carry;
 use listing::carry::Carry;
-ghost use Prim.Native.Nat.{_≤_};
+ghost use Prim.Native.Nat.{_≤_, _-_};
 
 // Between two chunks: the line that has begun, and what waits to be written.
 struct State {
@@ -23,15 +23,17 @@ fn answered(buf: &mut [u8], at: usize, open: bool, a: Asked) -> Out {
 
 // The line from `from` to `to` of a chunk, after what is kept of it.
 fn line(buf: &mut [u8], st: State, s: &[u8], from: usize, to: usize) -> State {
-    if (from <= to) & (to <= s.len()) {
-        let o = answered(buf, st.at, st.open, carry::finished(st.carry, &s[from..to]));
-        State {
-            carry: carry::empty(),
-            at: o.at,
-            open: o.open,
-        }
-    } else {
-        st
+    if to < from {
+        return st;
+    }
+    if s.len() < to {
+        return st;
+    }
+    let o = answered(buf, st.at, st.open, carry::finished(st.carry, &s[from..to]));
+    State {
+        carry: carry::empty(),
+        at: o.at,
+        open: o.open,
     }
 }
 
@@ -84,16 +86,32 @@ fn fed(buf: &mut [u8], st: State, s: &[u8]) -> State {
     }
 }
 
-// The line without a newline at the end of the input, if there is one; then what waits is written out.
-fn ended(buf: &mut [u8], st: State) {
-    let mut o = Out {
-        at: st.at,
-        open: st.open,
-    };
+// The line without a newline at the end of the input, if there is one.
+fn last(buf: &mut [u8], st: State) -> Out {
     if carry::has_begun(st.carry) {
-        o = answered(buf, st.at, st.open, carry::asked(st.carry));
+        answered(buf, st.at, st.open, carry::asked(st.carry))
+    } else {
+        Out {
+            at: st.at,
+            open: st.open,
+        }
     }
+}
+
+// The end of the input: the last line, and then what waits is written out.
+fn ended(buf: &mut [u8], st: State) {
+    let o = last(buf, st);
     output::flushed(buf, o);
+}
+
+// The turns left; none once the output is closed.
+fn next_turn(turns: u64, open: bool) -> u64
+    ensures { λ r. ⌜ r ≤ turns - 1 ⌝ }
+{
+    if !open {
+        return 0;
+    }
+    if 0 < turns { turns - 1 } else { 0 }
 }
 
 // The header, then every line's block, until the input ends, reading fails or the output is closed.
@@ -109,12 +127,12 @@ pub fn run() {
     let mut turns = u64::MAX;
     while turns > 0 {
         let got = libc::read(STDIN_FILENO, &mut chunk);
-        if (got <= 0) | !st.open {
+        if got <= 0 {
             turns = 0;
         } else {
             let n = io::count(got, &chunk);
             st = fed(&mut buf, st, &chunk[..n]);
-            turns -= 1;
+            turns = next_turn(turns, st.open);
         }
     }
     ended(&mut buf, st);
