@@ -1,16 +1,16 @@
 -- A line may be cut anywhere: what is kept of its parts, one after the other, is what is kept of the whole; and the lines of
 -- an input that comes in parts are those of the joined input.
 use mathlib.Core.Path.{_≡_, refl, ap, _∙_, sym}
-use mathlib.Core.Bool.{Bool, true, false}
+use mathlib.Core.Bool.{Bool, true, false, _||_}
 use mathlib.Core.List.{List, [], _∷_, _++_, map, append-assoc, append-nil}
 use mathlib.Core.Logic.{_⊎_, inl, inr, ⊎-elim}
-use Prim.Native.Nat.{ℕ, suc, _+_, _≤_, _<_, min}
+use Prim.Native.Nat.{ℕ, zero, suc, _+_, _≤_, _<_, min}
 use native.Mathlib.Omega.{arith}
 use lib.Dec.{eqb, leb, ltb}
 use native.Mathlib.Numerals.{add-one}
 use lib.ListN.{length, getD, take, set, length-append, length-take}
 use lib.Seq.{take-all, take-suc, take-suc-set}
-use borrow.Author.Tests.{le-leb, lt-leb, leb-true, leb-false, ne-eqb, eqb-true}
+use borrow.Author.Tests.{le-leb, lt-leb, leb-true, leb-false, ne-eqb, eqb-true, ltb-false}
 use Rattle.lines.specs.Digits.{choose}
 use Rattle.lines.specs.Fields.{newline, span}
 use Rattle.lines.specs.Record.{recordOf}
@@ -133,3 +133,12 @@ asks-whole l =
     ⊎-elim (λ (few : length l ≤ 128). rw (le-leb (0 + length l) 128 (omega arith)))
     (λ (many : 128 < length l). rw (lt-leb (0 + length l) 128 (omega arith), ne-eqb (length l) 64 (λ e. omega arith)))
     (short-or-long (length l))
+
+-- where no line has begun, nothing is kept
+pub nothing-kept : (o : Bool) (n : ℕ) (row : List ℕ) → (o || ltb 0 n) ≡ false → record { overlong = o; text = take n row } ≡ fresh
+nothing-kept true n row e = cc
+nothing-kept false zero row e = refl
+nothing-kept false (suc n) row e = let h : suc n ≤ 0 = ltb-false 0 (suc n) e in absurd (omega arith)
+
+pub asks-now : (o : Bool) (n : ℕ) (row s : List ℕ) → (o || ltb 0 n) ≡ false → asks (keep (record { overlong = o; text = take n row }) s) ≡ recordOf s
+asks-now o n row s e = ap (λ (h : Held). asks (keep h s)) (nothing-kept o n row e) ∙ asks-whole s

@@ -1,8 +1,8 @@
 -- The lines of an input, and a line that is cut between two reads: at most 128 bytes of it are kept.
 use Prim.Native.Nat.{ℕ, _+_}
-use mathlib.Core.Bool.{Bool, true, false}
+use mathlib.Core.Bool.{Bool, true, false, _||_}
 use mathlib.Core.List.{List, [], _∷_, _++_, map}
-use lib.Dec.{eqb, leb}
+use lib.Dec.{eqb, leb, ltb}
 use lib.ListN.{length, take}
 use Rattle.lines.specs.Digits.{choose}
 use Rattle.lines.specs.Fields.{newline}
@@ -18,6 +18,10 @@ pub record Held : Type 0 where
 
 abbrev pub held : Carry → Held
 held c = record { overlong = c .overlong; text = take (c .len) (c .bytes) }
+
+-- whether a line has begun
+abbrev pub begun : Carry → Bool
+begun c = c .overlong || ltb 0 (c .len)
 
 abbrev pub fresh : Held
 fresh = record { overlong = false; text = [] }

@@ -1,1 +1,3 @@
 pub mod Carry
+pub mod Listing
+pub mod Block

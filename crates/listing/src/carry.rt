@@ -4,7 +4,7 @@ use lines::record;
 use lines::record::Asked;
 ghost use mathlib.Core.Path.{_≡_};
 ghost use Prim.Native.Nat.{min};
-ghost use Rattle.listing.specs.Carry.{held, keep, fresh, tooLong, asks};
+ghost use Rattle.listing.specs.Carry.{held, keep, fresh, tooLong, asks, begun};
 
 // What is kept of an unfinished line: its first `len` bytes, or that it is too long.
 pub struct Carry {
@@ -78,4 +78,22 @@ pub fn asked(c: Carry) -> Asked
     let bytes = c.bytes;
     let z: usize = 0;
     record::record_of(&bytes[z..n])
+}
+
+// Whether a line has begun.
+pub fn has_begun(c: Carry) -> bool
+    ensures { λ r. ⌜ r ≡ begun c ⌝ }
+{
+    c.overlong | (0 < c.len)
+}
+
+// The record of the unfinished line with the bytes that finish it. Where nothing is kept they are read as they stand.
+pub fn finished(c: Carry, s: &[u8]) -> Asked
+    ensures { λ r. ⌜ r ≡ asks (keep (held c) (now (s .entry))) ⌝ }
+{
+    if has_begun(c) {
+        asked(more(c, s))
+    } else {
+        record::record_of(s)
+    }
 }

@@ -1,0 +1,70 @@
+-- How ours prints a block: what is left of it, the line that comes next, and the part of it that a buffer takes.
+use Prim.Native.Nat.{ℕ, zero, suc, _+_, _-_}
+use mathlib.Core.Path.{_≡_}
+use mathlib.Core.Bool.{Bool, true, false}
+use mathlib.Core.List.{List, [], _∷_, _++_}
+use lib.Dec.{eqb, ltb}
+use lib.Ieee.{Float}
+use Rattle.legs.specs.declared.Point.{Point}
+use Rattle.moves.specs.Moving.{moveTowards, pointOf}
+use Rattle.lines.specs.Digits.{choose}
+use Rattle.lines.specs.Stored.{Stored}
+use Rattle.lines.specs.Lines.{written}
+use Rattle.lines.specs.declared.listed.Line.{Line}
+use Rattle.lines.specs.declared.listed.Line.the-variants.{Arrived, Refused}
+use Rattle.listing.specs.Listing.{step}
+use Rattle.listing.specs.declared.block.Rest.{Rest}
+
+-- the last line of a block
+abbrev pub endLine : ℕ → ℕ → Line
+endLine count refused = choose (eqb refused 0) (Arrived count) (Refused refused)
+
+-- d steps more, the first of them the one after k, from l on; then the last line
+unfoldable pub left : Float → Point → List ℕ → ℕ → ℕ → Point → List ℕ
+left m t end k zero l = end
+left m t end k (suc d) l = written (step (k + 1) (pointOf (moveTowards l t m))) ++ left m t end (k + 1) d (pointOf (moveTowards l t m))
+
+unfoldable pub textOf : Rest → List ℕ
+textOf r =
+    choose (r .done) []
+    (left (r .«max_move») (r .target) (written (endLine (r .count) (r .refused))) (r .made) (r .count - r .made) (r .last))
+
+-- after the next line
+abbrev pub stepped : Rest → Rest
+stepped r = record {
+  «max_move» = r .«max_move»;
+  last = pointOf (moveTowards (r .last) (r .target) (r .«max_move»));
+  target = r .target;
+  made = r .made + 1;
+  count = r .count;
+  refused = r .refused;
+  done = false;
+}
+
+abbrev pub ended : Rest → Rest
+ended r = record {
+  «max_move» = r .«max_move»;
+  last = r .last;
+  target = r .target;
+  made = r .made;
+  count = r .count;
+  refused = r .refused;
+  done = true;
+}
+
+unfoldable pub afterOf : Rest → Rest
+afterOf r = choose (ltb (r .made) (r .count)) (stepped r) (ended r)
+
+-- the line that has led to a state
+unfoldable pub lineOf : Rest → Line
+lineOf r = choose (r .done) (endLine (r .count) (r .refused)) (step (r .made) (r .last))
+
+-- how many lines are left
+unfoldable pub linesLeft : Rest → ℕ
+linesLeft r = choose (r .done) 0 (suc (r .count - r .made))
+
+-- a part of a text, stored from a place on, and what is left of it
+pub record Part (before : List ℕ) (at : ℕ) (whole : List ℕ) (next : ℕ) (rest : List ℕ) (after : List ℕ) : Type 0 where
+  pub text : List ℕ
+  pub stored : Stored before at text next after
+  pub joins : whole ≡ text ++ rest
