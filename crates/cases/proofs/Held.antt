@@ -9,7 +9,7 @@ use Rattle.legs.specs.Merge.{merged, mergeRefusal, mergeTold}
 use Rattle.legs.specs.Update.{updated}
 use Rattle.rows.specs.Rows.{everyPoint, updateRefusal, updateTold}
 use Rattle.roots.specs.Root.{squareRoot}
-use Rattle.moves.specs.Moving.{moveTowards, stepAt, nearer, along}
+use Rattle.moves.specs.Moving.{component, moveTowards, stepAt, nearer, along}
 use Rattle.moves.specs.Distance.{same, squareSum, distance}
 use Rattle.moves.specs.Refusals.{moveRefusal}
 use Rattle.moves.specs.Entries.{moveTold}
@@ -21,7 +21,7 @@ use Rattle.steps.specs.Entries.{timedProgressTold, evenProgressTold}
 use Rattle.cases.specs.Cases.{cases, Hold}
 
 pub all-hold : Hold cases
-unfolding moveTold moveRefusal finitePoint permittedPoint finite le foot maxMove over minus moveTowards stepAt same eq nearer along distance squareSum squareRoot add sub mul div ofBits mergeTold mergeRefusal merged updateTold updateRefusal updated everyPoint ones timedProgressTold evenProgressTold timedProgress evenProgress progressRefusal elapsedPermitted periodPermitted wholeNumber inSeconds round
+unfolding moveTold moveRefusal finitePoint permittedPoint finite le foot maxMove over minus moveTowards stepAt same eq nearer along component distance squareSum squareRoot add sub mul div ofBits mergeTold mergeRefusal merged updateTold updateRefusal updated everyPoint ones timedProgressTold evenProgressTold timedProgress evenProgress progressRefusal elapsedPermitted periodPermitted wholeNumber inSeconds round
 all-hold = (
   refl,
   (
