@@ -35,13 +35,20 @@ pub(crate) fn store_point(p: Point, out: &mut [f32], at: usize)
     out[at + 2] = p.z;
 }
 
-pub(crate) fn store_feet(f: Feet, out: &mut [f32])
-    requires { ⌜ 18 ≤ length (now out) ⌝ }
+// Eighteen floats of a row that has room for them; false where it has not.
+pub(crate) fn store_feet(f: Feet, out: &mut [f32]) -> bool {
+    if out.len() < 18 {
+        return false;
+    }
+    store_three(f.left_front, f.right_front, f.left_middle, out, 0);
+    store_three(f.right_middle, f.left_rear, f.right_rear, out, 9);
+    true
+}
+
+pub(crate) fn store_three(p: Point, q: Point, r: Point, out: &mut [f32], at: usize)
+    requires { ⌜ at + 9 ≤ length (now out) ⌝ }
 {
-    store_point(f.left_front, out, 0);
-    store_point(f.right_front, out, 3);
-    store_point(f.left_middle, out, 6);
-    store_point(f.right_middle, out, 9);
-    store_point(f.left_rear, out, 12);
-    store_point(f.right_rear, out, 15);
+    store_point(p, out, at);
+    store_point(q, out, at + 3);
+    store_point(r, out, at + 6);
 }

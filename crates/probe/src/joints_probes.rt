@@ -56,15 +56,19 @@ fn as_point(a: LegAngles) -> Point {
     }
 }
 
-fn store_joints(j: Joints, out: &mut [f32])
-    requires { ⌜ 18 ≤ length (now out) ⌝ }
-{
-    feet::store_point(as_point(j.left_front), out, 0);
-    feet::store_point(as_point(j.right_front), out, 3);
-    feet::store_point(as_point(j.left_middle), out, 6);
-    feet::store_point(as_point(j.right_middle), out, 9);
-    feet::store_point(as_point(j.left_rear), out, 12);
-    feet::store_point(as_point(j.right_rear), out, 15);
+fn store_joints(j: Joints, out: &mut [f32]) -> u32 {
+    if out.len() < 18 {
+        return 99;
+    }
+    let a = as_point(j.left_front);
+    let b = as_point(j.right_front);
+    let c = as_point(j.left_middle);
+    let d = as_point(j.right_middle);
+    let e = as_point(j.left_rear);
+    let f = as_point(j.right_rear);
+    feet::store_three(a, b, c, out, 0);
+    feet::store_three(d, e, f, out, 9);
+    0
 }
 
 // Six feet and a configuration: 59 floats in, 18 out.
@@ -73,14 +77,8 @@ pub extern "C" fn probe_ik(s: &[f32], out: &mut [f32]) -> u32 {
     if s.len() < 59 {
         return 99;
     }
-    if out.len() < 18 {
-        return 99;
-    }
     match hopper::joints::calculate_ik(feet::feet(s, 0), configuration(s)) {
-        Solution::Solved(j) => {
-            store_joints(j, out);
-            0
-        }
+        Solution::Solved(j) => store_joints(j, out),
         Solution::Refused(n) => n,
     }
 }
@@ -114,14 +112,8 @@ pub extern "C" fn probe_fk(s: &[f32], out: &mut [f32]) -> u32 {
     if s.len() < 59 {
         return 99;
     }
-    if out.len() < 18 {
-        return 99;
-    }
     match hopper::joints::calculate_fk(joints(s), configuration(s)) {
-        Planned::Feet(f) => {
-            feet::store_feet(f, out);
-            0
-        }
+        Planned::Feet(f) => if feet::store_feet(f, out) { 0 } else { 99 },
         Planned::Refused(n) => n,
     }
 }

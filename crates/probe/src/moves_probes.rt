@@ -39,18 +39,10 @@ pub extern "C" fn probe_move(s: &[f32], out: &mut [f32]) -> u32 {
     }
 }
 
-fn store_feet_step(s: FeetStep, out: &mut [f32]) -> u32
-    requires { ⌜ 18 ≤ length (now out) ⌝ }
-{
+fn store_feet_step(s: FeetStep, out: &mut [f32]) -> u32 {
     match s {
-        FeetStep::Moved(f) => {
-            feet::store_feet(f, out);
-            256
-        }
-        FeetStep::Arrived(f) => {
-            feet::store_feet(f, out);
-            0
-        }
+        FeetStep::Moved(f) => if feet::store_feet(f, out) { 256 } else { 99 },
+        FeetStep::Arrived(f) => if feet::store_feet(f, out) { 0 } else { 99 },
     }
 }
 
@@ -58,9 +50,6 @@ fn store_feet_step(s: FeetStep, out: &mut [f32]) -> u32
 #[no_mangle]
 pub extern "C" fn probe_move_feet(s: &[f32], out: &mut [f32]) -> u32 {
     if s.len() < 37 {
-        return 99;
-    }
-    if out.len() < 18 {
         return 99;
     }
     match hopper::foot_moves::move_feet_towards(feet::feet(s, 0), feet::feet(s, 18), s[36]) {

@@ -43,20 +43,14 @@ pub extern "C" fn probe_even_progress(es: u64, en: u32, ps: u64, pn: u32, out: &
     )
 }
 
-fn stepped(f: Feet, out: &mut [f32]) -> u32
-    requires { ⌜ 18 ≤ length (now out) ⌝ }
-{
-    feet::store_feet(f, out);
-    256
+fn stepped(f: Feet, out: &mut [f32]) -> u32 {
+    if feet::store_feet(f, out) { 256 } else { 99 }
 }
 
 // start, last, target, max move, height: 56 floats in, 18 out where there is a step.
 #[no_mangle]
 pub extern "C" fn probe_step(s: &[f32], t: u32, aggressive: u32, out: &mut [f32]) -> u32 {
     if s.len() < 56 {
-        return 99;
-    }
-    if out.len() < 18 {
         return 99;
     }
     let state = StepIterator {
@@ -101,9 +95,6 @@ pub extern "C" fn probe_timed_step(
     if s.len() < 56 {
         return 99;
     }
-    if out.len() < 18 {
-        return 99;
-    }
     let state = TimedStepIterator {
         start: feet::feet(s, 0),
         last: feet::feet(s, 18),
@@ -133,9 +124,6 @@ pub extern "C" fn probe_even_step(
     if s.len() < 56 {
         return 99;
     }
-    if out.len() < 18 {
-        return 99;
-    }
     let state = EvenStepIterator {
         start: feet::feet(s, 0),
         last: feet::feet(s, 18),
@@ -150,6 +138,10 @@ pub extern "C" fn probe_even_step(
     }
 }
 
+fn planned(f: Feet, out: &mut [f32]) -> u32 {
+    if feet::store_feet(f, out) { 0 } else { 99 }
+}
+
 // start, relaxed, direction x and y, rotation, height: 40 floats in, 18 out.
 #[no_mangle]
 pub extern "C" fn probe_plan(
@@ -161,9 +153,6 @@ pub extern "C" fn probe_plan(
     out: &mut [f32],
 ) -> u32 {
     if s.len() < 40 {
-        return 99;
-    }
-    if out.len() < 18 {
         return 99;
     }
     let command = MoveCommand {
@@ -180,10 +169,7 @@ pub extern "C" fn probe_plan(
         tripod(t),
         command,
     ) {
-        Planned::Feet(f) => {
-            feet::store_feet(f, out);
-            0
-        }
+        Planned::Feet(f) => planned(f, out),
         Planned::Refused(n) => n,
     }
 }
