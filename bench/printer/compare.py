@@ -3,7 +3,7 @@
 import os, random, struct, subprocess, sys, time
 
 out, records, mebibytes = sys.argv[1], int(sys.argv[2]), int(sys.argv[3])
-OURS, RUST = ["tools/run", "hopper_walk"], [os.path.join(out, "printer")]
+OURS, RUST = ["target/bin/hopper_walk"], [os.path.join(out, "printer")]
 
 
 def record(r):
@@ -26,10 +26,12 @@ def peak(pieces):
     p = subprocess.Popen(OURS, stdin=subprocess.PIPE, stdout=subprocess.DEVNULL)
     for s in pieces:
         p.stdin.write(s)
+    p.stdin.flush()
+    with open("/proc/%d/status" % p.pid) as f:
+        held = [int(l.split()[1]) for l in f if l.startswith("VmHWM")][0]
     p.stdin.close()
-    _, status, used = os.wait4(p.pid, 0)
-    assert status == 0
-    return used.ru_maxrss
+    assert p.wait() == 0
+    return held
 
 
 r = random.Random(3)
