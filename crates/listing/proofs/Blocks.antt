@@ -9,7 +9,7 @@ use native.Mathlib.Numerals.{add-one}
 use lib.Dec.{eqb, ltb, leb}
 use lib.ListN.{length, getD}
 use lib.Ieee.{Float}
-use borrow.Author.Tests.{ltb-true, ltb-false, ne-eqb}
+use borrow.Author.Tests.{ltb-true, ltb-false, leb-false, ne-eqb}
 use Rattle.legs.specs.declared.Point.{Point}
 use Rattle.moves.specs.Moving.{moveTowards, pointOf}
 use Rattle.numbers.specs.Told.{Told, refused, given, answer}
@@ -160,3 +160,18 @@ module _ (m : Float) (s t s′ t′ : Point) (a : Walked) (n : ℕ) where
       subst (λ (p : Point). WalkPrints m p t text) es
       (subst (λ (p : Point). WalkPrints m s′ p text) et
       (refused-walk m s′ t′ n text (number-was (Walk m s′ t′) n (walkRefusal m s′ t′) (subst (λ (b : Walked). Counts (walkRefusal m s′ t′) (Walk m s′ t′) (told b)) ea c)) e))
+
+-- ---- parts written one after the other: with nothing left, they join to the block
+pub done-text : (r : Rest) → r .done ≡ true → textOf r ≡ []
+unfolding textOf
+done-text r e = rw e
+
+pub parts-join : {l l′ k k′ : List ℕ} {at at′ next next′ : ℕ} {whole rest rest′ : List ℕ} (p : Part l at whole next rest l′) (q : Part k at′ rest next′ rest′ k′) → whole ≡ (p .text ++ q .text) ++ rest′
+parts-join {rest′ = rest′} p q = p .joins ∙ ap (λ (u : List ℕ). p .text ++ u) (q .joins) ∙ sym (append-assoc (p .text) (q .text) rest′)
+
+-- where a block is not done and there is room, the next part is not empty: filling from the front of a buffer of 40 bytes or more goes on
+pub part-goes-on : {l l′ : List ℕ} {at next : ℕ} {whole rest : List ℕ} (d : Bool) → Part l at whole next rest l′ → d ≡ false → (not d && hasRoom l′ next) ≡ false → at + 40 ≤ length l′ → at < next
+part-goes-on {l} {l′} {at} {next} d p going stop room =
+    let full : leb (next + 40) (length l′) ≡ false = subst (λ (b : Bool). (not b && hasRoom l′ next) ≡ false) going stop in
+    let h : length l′ < next + 40 = leb-false (next + 40) (length l′) full in
+    omega arith

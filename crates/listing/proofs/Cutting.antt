@@ -14,6 +14,7 @@ use borrow.Author.Tests.{le-leb, lt-leb, leb-true, leb-false, ne-eqb, eqb-true, 
 use Rattle.lines.specs.Digits.{choose}
 use Rattle.lines.specs.Fields.{newline, span}
 use Rattle.lines.specs.Record.{recordOf}
+use Rattle.lines.specs.declared.record.Asked.{Asked}
 use Rattle.listing.specs.Carry.{Held, fresh, tooLong, keep, asks, Lines, line, linesFrom, Run, ran, runFrom}
 
 by-flag : (n : ℕ) (t : Bool) → leb n 128 ≡ t → (n ≤ 128) ⊎ (128 < n)
@@ -142,3 +143,14 @@ nothing-kept false (suc n) row e = let h : suc n ≤ 0 = ltb-false 0 (suc n) e i
 
 pub asks-now : (o : Bool) (n : ℕ) (row s : List ℕ) → (o || ltb 0 n) ≡ false → asks (keep (record { overlong = o; text = take n row }) s) ≡ recordOf s
 asks-now o n row s e = ap (λ (h : Held). asks (keep h s)) (nothing-kept o n row e) ∙ asks-whole s
+
+-- so the lines that the run has kept ask for what the input's lines ask for
+asks-each : (ls : List (List ℕ)) → map asks (map (keep fresh) ls) ≡ map recordOf ls
+asks-each [] = refl
+asks-each (l ∷ ls) = ap (λ (a : Asked). a ∷ map asks (map (keep fresh) ls)) (asks-whole l) ∙ ap (λ (as' : List Asked). recordOf l ∷ as') (asks-each ls)
+
+pub asked-lines : (s : List ℕ) → map asks (runFrom fresh s .finished) ≡ map recordOf (linesFrom [] s .finished)
+asked-lines s = ap (λ (r : Run). map asks (r .finished)) (run-lines s) ∙ asks-each (linesFrom [] s .finished)
+
+pub asked-last : (s : List ℕ) → asks (runFrom fresh s .begun) ≡ recordOf (linesFrom [] s .begun)
+asked-last s = ap (λ (r : Run). asks (r .begun)) (run-lines s) ∙ asks-whole (linesFrom [] s .begun)

@@ -1,7 +1,7 @@
 -- Document 01, "The walk printer": what is printed for a line, and for a whole input.
 use Prim.Native.Nat.{ℕ, zero, suc}
 use mathlib.Core.Path.{_≡_}
-use mathlib.Core.List.{List, [], _∷_, _++_}
+use mathlib.Core.List.{List, [], _∷_, _++_, map}
 use lib.Dec.{eqb}
 use lib.Ieee.{Float}
 use Rattle.legs.specs.declared.Point.{Point}
@@ -54,10 +54,10 @@ abbrev pub inputLines : List ℕ → List (List ℕ)
 inputLines input = withLast (linesFrom [] input .finished) (linesFrom [] input .begun)
 
 -- what each line prints, joined
-abbrev pub AllPrint : List (List ℕ) → List ℕ → Type 0
+abbrev pub AllPrint : List Asked → List ℕ → Type 0
 AllPrint [] text = text ≡ []
-AllPrint (l ∷ ls) text = (first : List ℕ) × (others : List ℕ) × (text ≡ first ++ others) × Prints (recordOf l) first × AllPrint ls others
+AllPrint (a ∷ as') text = (first : List ℕ) × (others : List ℕ) × (text ≡ first ++ others) × Prints a first × AllPrint as' others
 
 -- "The header comes first"
 abbrev pub Listing : List ℕ → List ℕ → Type 0
-Listing input text = (blocks : List ℕ) × (text ≡ written (Header 1) ++ blocks) × AllPrint (inputLines input) blocks
+Listing input text = (blocks : List ℕ) × (text ≡ written (Header 1) ++ blocks) × AllPrint (map recordOf (inputLines input)) blocks

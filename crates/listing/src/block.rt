@@ -9,10 +9,14 @@ use lines::record::Place;
 use lines::record::Walk;
 use walks::Walked;
 ghost use mathlib.Core.Path.{_≡_};
-ghost use mathlib.Core.Bool.{not, _&&_};
+ghost use mathlib.Core.Bool.{false, not, _&&_};
 ghost use Prim.Native.Nat.{_+_};
 ghost use lib.Dec.{leb};
-ghost use Rattle.lines.specs.Lines.{written};
+ghost use mathlib.Core.List.{[]};
+ghost use Rattle.lines.specs.Digits.{choose};
+ghost use Rattle.lines.specs.Stored.{Stored};
+ghost use Rattle.lines.specs.Lines.{written, hasRoom};
+ghost use Rattle.lines.specs.declared.listed.Line.the-variants.{Header};
 ghost use Rattle.listing.specs.Listing.{pointAt, step, WalkPrints, Prints};
 ghost use Rattle.listing.specs.Block.{endLine, textOf, afterOf, lineOf, Part};
 
@@ -152,13 +156,15 @@ fn line(r: Rest) -> Line
 }
 
 // The header.
-pub fn header(buf: &mut [u8], at: usize) -> usize {
+pub fn header(buf: &mut [u8], at: usize) -> usize
+    ensures { λ r. ⌜ Stored (now (buf .entry)) at (choose (hasRoom (now (buf .entry)) at) (written (Header 1)) []) r (now (buf .exit)) ⌝ }
+{
     listed::put_line(buf, at, Line::Header(1))
 }
 
 // Lines of the block stored from `at` on, until it is done or the buffer has less than a line's room, 40 bytes.
 pub fn fill(buf: &mut [u8], at: usize, r: Rest) -> Filled
-    ensures { λ f. ⌜ Part (now (buf .entry)) at (textOf r) (f .at) (textOf (f .rest)) (now (buf .exit)) ⌝ }
+    ensures { λ f. ⌜ Part (now (buf .entry)) at (textOf r) (f .at) (textOf (f .rest)) (now (buf .exit)) × ((not (f .rest .done) && hasRoom (now (buf .exit)) (f .at)) ≡ false) ⌝ }
 {
     let mut at = at;
     let mut r = r;

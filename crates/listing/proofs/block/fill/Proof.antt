@@ -45,7 +45,7 @@ same-length : tie.Need-same-length Inv-loop μ-loop
 same-length c = search needs
 
 returns : tie.Need-returns Inv-loop μ-loop
-returns c = c .before .before .loop .inv .1
+returns c = (c .before .before .loop .inv .1, sym (c .before .goes-on .ensures) ∙ c .if1 .left)
 
 pub fill-spec : {M : Type 1} → statement M
 fill-spec =
