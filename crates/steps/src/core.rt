@@ -42,8 +42,8 @@ pub fn timed_progress(elapsed: Time, period: Time) -> f32
 pub fn even_progress(elapsed: Time, period: Time) -> f32
     ensures { λ r. ⌜ r ≡ evenProgress elapsed period ⌝ }
 {
-    let seconds = commands::core::as_secs_f32(period);
-    commands::core::as_secs_f32(elapsed) / seconds
+    let whole = commands::core::as_secs_f32(period);
+    commands::core::as_secs_f32(elapsed) / whole
 }
 
 // Whether a foot is at its full height at once.
