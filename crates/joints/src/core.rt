@@ -161,18 +161,23 @@ pub fn calculate_fk_for_leg(motors: LegAngles, body: Body, leg: LegConfiguration
 {
     let femur_angle = from_motor(motors.femur, leg.femur_correction, body.femur_offset);
     let tibia_angle = from_motor(motors.tibia, leg.tibia_correction, body.tibia_offset);
-    let base_angle = motors.coxa - ONE_FIFTY - leg.angle_offset;
-    let base_x = sines::core::cosine(base_angle);
-    let base_y = sines::core::sine(base_angle);
+    let base = sines::core::sine_and_cosine(motors.coxa - ONE_FIFTY - leg.angle_offset);
     let femur_turn = femur_angle - NINETY;
-    let femur_x = sines::core::sine(femur_turn) * body.femur_length;
-    let femur_y = sines::core::cosine(femur_turn) * body.femur_length;
-    let tibia_turn = tibia_angle - (NINETY - femur_turn);
-    let tibia_x = sines::core::sine(tibia_turn) * body.tibia_length;
-    let tibia_y = sines::core::cosine(tibia_turn) * body.tibia_length;
+    let femur = sines::core::sine_and_cosine(femur_turn);
+    let femur_x = femur.sine * body.femur_length;
+    let femur_y = femur.cosine * body.femur_length;
+    let tibia = sines::core::sine_and_cosine(tibia_angle - (NINETY - femur_turn));
+    let tibia_x = tibia.sine * body.tibia_length;
+    let tibia_y = tibia.cosine * body.tibia_length;
     Point {
-        x: leg.position.x + base_x * body.coxa_length + base_x * femur_y + base_x * tibia_x,
-        y: leg.position.y + base_y * body.coxa_length + base_y * femur_y + base_y * tibia_x,
+        x: leg.position.x
+            + base.cosine * body.coxa_length
+            + base.cosine * femur_y
+            + base.cosine * tibia_x,
+        y: leg.position.y
+            + base.sine * body.coxa_length
+            + base.sine * femur_y
+            + base.sine * tibia_x,
         z: leg.position.z + 0.0 * body.coxa_length + femur_x + -tibia_y,
     }
 }

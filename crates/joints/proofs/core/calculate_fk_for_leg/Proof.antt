@@ -11,36 +11,36 @@ from-motor-requires c κs = search needs
 from-motor-requires-2 : tie.Need-from-motor-requires-2
 from-motor-requires-2 c κs = search needs
 
-cosine-requires : tie.Need-cosine-requires
-cosine-requires c κs = search needs
+sine-and-cosine-requires : tie.Need-sine-and-cosine-requires
+sine-and-cosine-requires c κs = search needs
 
-sine-requires : tie.Need-sine-requires
-sine-requires c κs = search needs
+sine-and-cosine-requires-2 : tie.Need-sine-and-cosine-requires-2
+sine-and-cosine-requires-2 c κs = search needs
 
-sine-requires-2 : tie.Need-sine-requires-2
-sine-requires-2 c κs = search needs
+sine-and-cosine-requires-3 : tie.Need-sine-and-cosine-requires-3
+sine-and-cosine-requires-3 c κs = search needs
 
-cosine-requires-2 : tie.Need-cosine-requires-2
-cosine-requires-2 c κs = search needs
+abbrev at-tibia : tie.After-struct-known22 → tie.After-sine-and-cosine3
+at-tibia c = c .before .before .before .before .before .before .before .before .before .before .before .before .before .before .before .before
 
-sine-requires-3 : tie.Need-sine-requires-3
-sine-requires-3 c κs = search needs
+abbrev at-femur : tie.After-struct-known22 → tie.After-sine-and-cosine2
+at-femur c = at-tibia c .before .before .before .before .before
 
-cosine-requires-3 : tie.Need-cosine-requires-3
-cosine-requires-3 c κs = search needs
+abbrev at-base : tie.After-struct-known22 → tie.After-sine-and-cosine
+at-base c = at-femur c .before
 
 returns : tie.Need-returns
 unfolding baseAngle femurTurn tibiaTurn standing ninety oneFifty
 returns c =
     simp (
-      c .before .before .before .before .before .before .before .cosine3 .ensures .0,
-      c .before .before .before .before .before .before .before .before .before .sine3 .ensures .0,
-      c .before .before .before .before .before .before .before .before .before .before .before .cosine2 .ensures .0,
-      c .before .before .before .before .before .before .before .before .before .before .before .before .before .sine2 .ensures .0,
-      c .before .before .before .before .before .before .before .before .before .before .before .before .before .before .sine .ensures .0,
-      c .before .before .before .before .before .before .before .before .before .before .before .before .before .before .before .cosine .ensures .0,
-      c .before .before .before .before .before .before .before .before .before .before .before .before .before .before .before .before .before .before .from-motor2 .ensures,
-      c .before .before .before .before .before .before .before .before .before .before .before .before .before .before .before .before .before .before .before .from-motor .ensures,
+      at-tibia c .sine-and-cosine3 .ensures .0,
+      at-tibia c .sine-and-cosine3 .ensures .1,
+      at-femur c .sine-and-cosine2 .ensures .0,
+      at-femur c .sine-and-cosine2 .ensures .1,
+      at-base c .sine-and-cosine .ensures .0,
+      at-base c .sine-and-cosine .ensures .1,
+      at-base c .before .before .before .from-motor2 .ensures,
+      at-base c .before .before .before .before .from-motor .ensures,
     )
 
 pub calculate-fk-for-leg-spec : {M : Type 1} → statement M
@@ -49,10 +49,7 @@ calculate-fk-for-leg-spec =
     (tie.spec
     from-motor-requires
     from-motor-requires-2
-    cosine-requires
-    sine-requires
-    sine-requires-2
-    cosine-requires-2
-    sine-requires-3
-    cosine-requires-3
+    sine-and-cosine-requires
+    sine-and-cosine-requires-2
+    sine-and-cosine-requires-3
     returns)
