@@ -17,4 +17,5 @@ pub mod Table
 pub mod OneAnswer
 pub mod Trail
 pub mod Unrefused
+pub mod Ends
 pub mod Examples
