@@ -18,4 +18,5 @@ pub mod OneAnswer
 pub mod Trail
 pub mod Unrefused
 pub mod Ends
+pub mod Rounds
 pub mod Examples
