@@ -11,13 +11,15 @@ def record(r):
     return b"W" + b"".join(b"\t" + struct.pack(">f", x).hex().encode() for x in v) + b"\n"
 
 
-def timed(program, data, listing):
-    best = 1e9
-    for _ in range(5):
-        with open(data, "rb") as i, open(listing, "wb") as o:
-            before = time.perf_counter()
-            subprocess.run(program, stdin=i, stdout=o, check=True)
-            best = min(best, time.perf_counter() - before)
+def timed(data, programs):
+    """The best time of each program, which run by turns."""
+    best = [1e9] * len(programs)
+    for _ in range(9):
+        for k, (program, listing) in enumerate(programs):
+            with open(data, "rb") as i, open(listing, "wb") as o:
+                before = time.perf_counter()
+                subprocess.run(program, stdin=i, stdout=o, check=True)
+                best[k] = min(best[k], time.perf_counter() - before)
     return best
 
 
@@ -38,8 +40,7 @@ r = random.Random(3)
 data = os.path.join(out, "walks.in")
 with open(data, "wb") as f:
     f.write(b"".join(record(r) for _ in range(records)))
-ours = timed(OURS, data, os.path.join(out, "ours.out"))
-rust = timed(RUST, data, os.path.join(out, "rust.out"))
+ours, rust = timed(data, [(OURS, os.path.join(out, "ours.out")), (RUST, os.path.join(out, "rust.out"))])
 with open(os.path.join(out, "ours.out"), "rb") as a, open(os.path.join(out, "rust.out"), "rb") as b:
     mine, theirs = a.read(), b.read()
 print("%d records, %d lines, the same to the byte: %s" % (records, mine.count(b"\n"), mine == theirs))

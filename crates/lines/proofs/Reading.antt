@@ -1,9 +1,9 @@
 -- Digits are read one byte after the other: what is left from i on by its first byte and what is left from i + 1 on, and how large the number gets.
 use mathlib.Core.Path.{_≡_, refl, ap, _∙_, sym, subst}
-use mathlib.Core.Bool.{Bool, true, false, _&&_}
+use mathlib.Core.Bool.{Bool, true, false, not, _&&_, false≢true}
 use mathlib.Core.List.{List, [], _∷_}
 use Prim.Native.Nat.{ℕ, suc, _+_, _*_, _%_, _≤_, _<_, _^_}
-use native.Mathlib.Nat.{pow-zero, pow-suc, pow-succ', mul-one, mul-assoc, add-zero, mul-le-mul-left, mod-lt, pow-le-pow-right}
+use native.Mathlib.Nat.{pow-zero, pow-suc, pow-succ', mul-one, mul-assoc, add-zero, mul-le-mul-left, mod-lt, pow-le-pow-right, lt-of-lt-of-le}
 use native.Mathlib.Numerals.{add-one}
 use native.Mathlib.Omega.{arith}
 use lib.Dec.{eqb, leb, lit<, lit≤}
@@ -39,6 +39,47 @@ module _ (s : List ℕ) (i : ℕ) (h : i < length s) where
 pub span-end : (s : List ℕ) (i : ℕ) → length s ≤ i → (sep : ℕ) → span sep (drop i s) ≡ 0
 unfolding span
 span-end s i h sep = ap (span sep) (drop-of-length-le s h)
+
+-- ---- eight bytes passed at once
+abbrev pub apart : List ℕ → ℕ → ℕ → Bool
+apart s i sep = not (eqb (getD s i 0) sep)
+
+passed : (s : List ℕ) (sep i j : ℕ) → j ≡ i + 1 → i < length s → apart s i sep ≡ true → j + span sep (drop j s) ≡ i + span sep (drop i s)
+passed s sep i j e h t =
+    let n : getD s i 0 ≡ sep → ⊥ = λ q. absurd (false≢true (sym (ap not (eq-eqb (getD s i 0) sep q)) ∙ t)) in
+    let w : span sep (drop i s) ≡ span sep (drop (i + 1) s) + 1 = span-step s i h sep n in
+    ap (λ (k : ℕ). k + span sep (drop k s)) e ∙ regroup (span sep (drop (i + 1) s)) (span sep (drop i s)) w
+  where
+    regroup : (a b : ℕ) → b ≡ a + 1 → i + 1 + a ≡ i + b
+    regroup a b g = omega arith
+
+pub eight-passed : (s : List ℕ) (at sep : ℕ) → at + 8 ≤ length s
+    → (apart s at sep && apart s (at + 1) sep && apart s (at + 2) sep && apart s (at + 3) sep && apart s (at + 4) sep && apart s (at + 5) sep && apart s (at + 6) sep && apart s (at + 7) sep) ≡ true
+    → at + 8 + span sep (drop (at + 8) s) ≡ at + span sep (drop at s)
+eight-passed s at sep h t =
+    let on : (i j : ℕ) → j ≡ i + 1 → i < at + 8 → apart s i sep ≡ true → j + span sep (drop j s) ≡ i + span sep (drop i s) = λ i j e l u. passed s sep i j e (lt-of-lt-of-le l h) u in
+    let r7 : apart s (at + 7) sep ≡ true = and-right (apart s at sep && apart s (at + 1) sep && apart s (at + 2) sep && apart s (at + 3) sep && apart s (at + 4) sep && apart s (at + 5) sep && apart s (at + 6) sep) (apart s (at + 7) sep) t in
+    let t7 : (apart s at sep && apart s (at + 1) sep && apart s (at + 2) sep && apart s (at + 3) sep && apart s (at + 4) sep && apart s (at + 5) sep && apart s (at + 6) sep) ≡ true = and-left (apart s at sep && apart s (at + 1) sep && apart s (at + 2) sep && apart s (at + 3) sep && apart s (at + 4) sep && apart s (at + 5) sep && apart s (at + 6) sep) (apart s (at + 7) sep) t in
+    let r6 : apart s (at + 6) sep ≡ true = and-right (apart s at sep && apart s (at + 1) sep && apart s (at + 2) sep && apart s (at + 3) sep && apart s (at + 4) sep && apart s (at + 5) sep) (apart s (at + 6) sep) t7 in
+    let t6 : (apart s at sep && apart s (at + 1) sep && apart s (at + 2) sep && apart s (at + 3) sep && apart s (at + 4) sep && apart s (at + 5) sep) ≡ true = and-left (apart s at sep && apart s (at + 1) sep && apart s (at + 2) sep && apart s (at + 3) sep && apart s (at + 4) sep && apart s (at + 5) sep) (apart s (at + 6) sep) t7 in
+    let r5 : apart s (at + 5) sep ≡ true = and-right (apart s at sep && apart s (at + 1) sep && apart s (at + 2) sep && apart s (at + 3) sep && apart s (at + 4) sep) (apart s (at + 5) sep) t6 in
+    let t5 : (apart s at sep && apart s (at + 1) sep && apart s (at + 2) sep && apart s (at + 3) sep && apart s (at + 4) sep) ≡ true = and-left (apart s at sep && apart s (at + 1) sep && apart s (at + 2) sep && apart s (at + 3) sep && apart s (at + 4) sep) (apart s (at + 5) sep) t6 in
+    let r4 : apart s (at + 4) sep ≡ true = and-right (apart s at sep && apart s (at + 1) sep && apart s (at + 2) sep && apart s (at + 3) sep) (apart s (at + 4) sep) t5 in
+    let t4 : (apart s at sep && apart s (at + 1) sep && apart s (at + 2) sep && apart s (at + 3) sep) ≡ true = and-left (apart s at sep && apart s (at + 1) sep && apart s (at + 2) sep && apart s (at + 3) sep) (apart s (at + 4) sep) t5 in
+    let r3 : apart s (at + 3) sep ≡ true = and-right (apart s at sep && apart s (at + 1) sep && apart s (at + 2) sep) (apart s (at + 3) sep) t4 in
+    let t3 : (apart s at sep && apart s (at + 1) sep && apart s (at + 2) sep) ≡ true = and-left (apart s at sep && apart s (at + 1) sep && apart s (at + 2) sep) (apart s (at + 3) sep) t4 in
+    let r2 : apart s (at + 2) sep ≡ true = and-right (apart s at sep && apart s (at + 1) sep) (apart s (at + 2) sep) t3 in
+    let t2 : (apart s at sep && apart s (at + 1) sep) ≡ true = and-left (apart s at sep && apart s (at + 1) sep) (apart s (at + 2) sep) t3 in
+    let r1 : apart s (at + 1) sep ≡ true = and-right (apart s at sep) (apart s (at + 1) sep) t2 in
+    let t1 : (apart s at sep) ≡ true = and-left (apart s at sep) (apart s (at + 1) sep) t2 in
+    on (at + 7) (at + 8) (omega arith) (omega arith) r7
+    ∙ on (at + 6) (at + 7) (omega arith) (omega arith) r6
+    ∙ on (at + 5) (at + 6) (omega arith) (omega arith) r5
+    ∙ on (at + 4) (at + 5) (omega arith) (omega arith) r4
+    ∙ on (at + 3) (at + 4) (omega arith) (omega arith) r3
+    ∙ on (at + 2) (at + 3) (omega arith) (omega arith) r2
+    ∙ on (at + 1) (at + 2) (omega arith) (omega arith) r1
+    ∙ on at (at + 1) (omega arith) (omega arith) t1
 
 pub read-end : (s : List ℕ) (i : ℕ) → length s ≤ i → (base : ℕ) (a : Digits) → pushAll base a (drop i s) ≡ a
 unfolding pushAll

@@ -1,6 +1,7 @@
 // Fields parted by a separator byte: a tab for the walk printer, a blank for operation lines.
 use crate::digits;
 ghost use mathlib.Core.Path.{_≡_};
+ghost use mathlib.Core.Bool.{true};
 ghost use Prim.Native.Nat.{_+_, _≤_};
 ghost use lib.ListN.{length, drop};
 ghost use Rattle.lines.specs.Fields.{fieldEnd};
@@ -20,11 +21,35 @@ pub struct Three {
     pub z: u32,
 }
 
-// The place of the first separator from `from` on, or the end.
+// Whether eight bytes follow of which none is the separator.
+fn eight_clear(s: &[u8], at: usize, separator: u8) -> bool
+    ensures { λ r. ⌜ (r ≡ true → (at + 8 ≤ length (now (s .entry))) × (fieldEnd separator (now (s .entry)) (at + 8) ≡ fieldEnd separator (now (s .entry)) at)) ⌝ }
+{
+    let n = s.len();
+    if n < 8 {
+        return false;
+    }
+    if n - 8 < at {
+        return false;
+    }
+    (s[at] != separator)
+        & (s[at + 1] != separator)
+        & (s[at + 2] != separator)
+        & (s[at + 3] != separator)
+        & (s[at + 4] != separator)
+        & (s[at + 5] != separator)
+        & (s[at + 6] != separator)
+        & (s[at + 7] != separator)
+}
+
+// The place of the first separator from `from` on, or the end. Eight bytes are passed at a time.
 pub fn field_end(s: &[u8], from: usize, separator: u8) -> usize
     ensures { λ r. ⌜ r ≡ fieldEnd separator (now (s .entry)) from ⌝ }
 {
     let mut i = from;
+    while eight_clear(s, i, separator) {
+        i += 8;
+    }
     while i < s.len() {
         if s[i] == separator {
             return i;
