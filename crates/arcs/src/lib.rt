@@ -7,7 +7,7 @@ ghost use mathlib.Core.Path.{_≡_};
 ghost use lib.Ieee.{Float};
 ghost use Rattle.numbers.specs.Answers.{told};
 ghost use Rattle.numbers.specs.declared.Answer.the-variants.{Value};
-ghost use Rattle.arcs.specs.Entries.{arcCosineRefusal, arcCosineTold, atan2Refusal, atan2Told};
+ghost use Rattle.arcs.specs.Entries.{arcCosineTold, atan2Refusal, atan2Told};
 ghost use Rattle.arcs.specs.Wedges.{ArcCosineOf, Atan2Of};
 
 mod angle;
@@ -16,26 +16,17 @@ mod digits;
 mod table;
 mod whole_root;
 
-// Why q is turned away: 1 for a NaN or an infinity, 2 outside -1 to 1; 0 where it is taken.
-fn arc_cosine_refused(q: f32) -> u32
-    ensures { λ r. ⌜ r ≡ arcCosineRefusal q ⌝ }
-{
-    let finite = door::is_finite(q);
-    let permitted = door::is_permitted(limits::arc_cosine_argument(), q);
-    door::either(door::unless(finite, 1), door::unless(permitted, 2))
-}
-
 // Why (y, x) is turned away: 1 if either is a NaN or an infinity, 2 if either is outside -128 to 128.
 fn atan2_refused(y: f32, x: f32) -> u32
     ensures { λ r. ⌜ r ≡ atan2Refusal y x ⌝ }
 {
-    let finite = door::is_finite(y) & door::is_finite(x);
     let y_permitted = door::is_permitted(limits::atan2_argument(), y);
     let x_permitted = door::is_permitted(limits::atan2_argument(), x);
-    door::either(
-        door::unless(finite, 1),
-        door::unless(y_permitted & x_permitted, 2),
-    )
+    if y_permitted & x_permitted {
+        0
+    } else {
+        door::outside(door::is_finite(y) & door::is_finite(x))
+    }
 }
 
 // The angle from 0 to P radians whose cosine is q, for q from -1 to 1.
@@ -43,7 +34,7 @@ pub fn arc_cosine(q: f32) -> Answer
     ensures exact { λ r. ⌜ told r ≡ arcCosineTold q ⌝ }
     ensures band { λ r. ⌜ ((a : Float) → r ≡ Value a → ArcCosineOf q a) ⌝ }
 {
-    let n = arc_cosine_refused(q);
+    let n = door::refused(limits::arc_cosine_argument(), q);
     if n == 0 {
         Answer::Value(core::arc_cosine(q))
     } else {

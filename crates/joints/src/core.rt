@@ -6,10 +6,9 @@ use legs::Feet;
 use legs::Joints;
 use legs::LegAngles;
 use legs::Point;
-use sines::core::Turn;
 ghost use mathlib.Core.Path.{_≡_};
 ghost use Rattle.joints.specs.Inverse.{relative, reach, getAlphaAngle, toMotor, course, legAngles, solvedLeg, solved};
-ghost use Rattle.joints.specs.Forward.{fromMotor, TurnsOf, standing, standingFeet};
+ghost use Rattle.joints.specs.Forward.{fromMotor, standing, standingFeet};
 
 // Rust's `to_radians` of 90 and 150 degrees: 3fc90fdb and 40278d36.
 const NINETY: f32 = 1.5707964;
@@ -183,52 +182,31 @@ pub fn from_motor(motor: f32, correction: f32, offset: f32) -> f32
     numbers::core::absolute(motor - numbers::core::absolute(correction + offset))
 }
 
-// The sines and cosines that a foot's place is made from.
-pub struct Turns {
-    pub base: Turn,
-    pub femur: Turn,
-    pub tibia: Turn,
-}
-
-// Those of a leg at these motor angles.
-pub fn turns_of(motors: LegAngles, body: Body, leg: LegConfiguration) -> Turns
-    ensures { λ r. ⌜ TurnsOf motors body leg r ⌝ }
-{
-    let femur_angle = from_motor(motors.femur, leg.femur_correction, body.femur_offset);
-    let tibia_angle = from_motor(motors.tibia, leg.tibia_correction, body.tibia_offset);
-    let femur_turn = femur_angle - NINETY;
-    let base = sines::core::sine_and_cosine(motors.coxa - ONE_FIFTY - leg.angle_offset);
-    let femur = sines::core::sine_and_cosine(femur_turn);
-    let tibia = sines::core::sine_and_cosine(tibia_angle - (NINETY - femur_turn));
-    Turns {
-        base: base,
-        femur: femur,
-        tibia: tibia,
-    }
-}
-
-// Where the foot of a leg with these turns stands.
-pub fn foot_of(t: Turns, body: Body, leg: LegConfiguration) -> Point
-    ensures { λ r. ⌜ ((m : LegAngles) → TurnsOf m body leg t → r ≡ standing m body leg) ⌝ }
-{
-    let base_x = t.base.cosine;
-    let base_y = t.base.sine;
-    let femur_x = t.femur.sine * body.femur_length;
-    let femur_y = t.femur.cosine * body.femur_length;
-    let tibia_x = t.tibia.sine * body.tibia_length;
-    let tibia_y = t.tibia.cosine * body.tibia_length;
-    Point {
-        x: leg.position.x + base_x * body.coxa_length + base_x * femur_y + base_x * tibia_x,
-        y: leg.position.y + base_y * body.coxa_length + base_y * femur_y + base_y * tibia_x,
-        z: leg.position.z + 0.0 * body.coxa_length + femur_x + -tibia_y,
-    }
-}
-
 // Where one foot stands at these motor angles.
 pub fn calculate_fk_for_leg(motors: LegAngles, body: Body, leg: LegConfiguration) -> Point
     ensures { λ r. ⌜ r ≡ standing motors body leg ⌝ }
 {
-    foot_of(turns_of(motors, body, leg), body, leg)
+    let femur_angle = from_motor(motors.femur, leg.femur_correction, body.femur_offset);
+    let tibia_angle = from_motor(motors.tibia, leg.tibia_correction, body.tibia_offset);
+    let base = sines::core::sine_and_cosine(motors.coxa - ONE_FIFTY - leg.angle_offset);
+    let femur_turn = femur_angle - NINETY;
+    let femur = sines::core::sine_and_cosine(femur_turn);
+    let femur_x = femur.sine * body.femur_length;
+    let femur_y = femur.cosine * body.femur_length;
+    let tibia = sines::core::sine_and_cosine(tibia_angle - (NINETY - femur_turn));
+    let tibia_x = tibia.sine * body.tibia_length;
+    let tibia_y = tibia.cosine * body.tibia_length;
+    Point {
+        x: leg.position.x
+            + base.cosine * body.coxa_length
+            + base.cosine * femur_y
+            + base.cosine * tibia_x,
+        y: leg.position.y
+            + base.sine * body.coxa_length
+            + base.sine * femur_y
+            + base.sine * tibia_x,
+        z: leg.position.z + 0.0 * body.coxa_length + femur_x + -tibia_y,
+    }
 }
 
 // Six feet, leg by leg.

@@ -4,6 +4,7 @@ use crate::configuration::Configuration;
 use legs::Feet;
 use legs::Joints;
 use legs::Planned;
+use numbers::door;
 use numbers::limits;
 ghost use mathlib.Core.Path.{_≡_};
 ghost use Rattle.legs.specs.Answers.{told as toldFeet};
@@ -28,10 +29,8 @@ pub fn ik_refused(feet: Feet, config: Configuration) -> u32
     let permitted = legs::core::feet_permitted(foot, feet) & configuration::permitted(config);
     if permitted {
         0
-    } else if legs::core::feet_finite(feet) & configuration::finite(config) {
-        2
     } else {
-        1
+        door::outside(legs::core::feet_finite(feet) & configuration::finite(config))
     }
 }
 
@@ -64,10 +63,8 @@ pub fn fk_refused(joints: Joints, config: Configuration) -> u32
     let permitted = configuration::joints_permitted(joints) & configuration::permitted(config);
     if permitted {
         0
-    } else if configuration::joints_finite(joints) & configuration::finite(config) {
-        2
     } else {
-        1
+        door::outside(configuration::joints_finite(joints) & configuration::finite(config))
     }
 }
 

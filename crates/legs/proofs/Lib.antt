@@ -1,3 +1,4 @@
 pub mod Laws
 pub mod OneAnswer
 mod Filling
+pub mod OnePass

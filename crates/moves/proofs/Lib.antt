@@ -5,3 +5,4 @@ pub mod Steps
 pub mod FootByFoot
 pub mod OneAnswer
 pub mod Examples
+mod OnePass

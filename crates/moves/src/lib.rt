@@ -81,13 +81,18 @@ pub fn move_refused(last: Point, target: Point, max_move: f32) -> u32
 {
     let foot = numbers::limits::foot();
     let longest = numbers::limits::max_move();
-    let finite = legs::core::point_finite(last)
-        & legs::core::point_finite(target)
-        & door::is_finite(max_move);
     let permitted = legs::core::point_permitted(foot, last)
         & legs::core::point_permitted(foot, target)
         & door::is_permitted(longest, max_move);
-    door::either(door::unless(finite, 1), door::unless(permitted, 2))
+    if permitted {
+        0
+    } else {
+        door::outside(
+            legs::core::point_finite(last)
+                & legs::core::point_finite(target)
+                & door::is_finite(max_move),
+        )
+    }
 }
 
 // The same over six feet.
@@ -96,13 +101,18 @@ pub fn move_feet_refused(last: Feet, target: Feet, max_move: f32) -> u32
 {
     let foot = numbers::limits::foot();
     let longest = numbers::limits::max_move();
-    let finite = legs::core::feet_finite(last)
-        & legs::core::feet_finite(target)
-        & door::is_finite(max_move);
     let permitted = legs::core::feet_permitted(foot, last)
         & legs::core::feet_permitted(foot, target)
         & door::is_permitted(longest, max_move);
-    door::either(door::unless(finite, 1), door::unless(permitted, 2))
+    if permitted {
+        0
+    } else {
+        door::outside(
+            legs::core::feet_finite(last)
+                & legs::core::feet_finite(target)
+                & door::is_finite(max_move),
+        )
+    }
 }
 
 // A point takes one step of at most max_move towards its target.
@@ -206,9 +216,11 @@ pub fn longest_refused(a: Feet, b: Feet) -> u32
     ensures { λ r. ⌜ r ≡ longestRefusal a b ⌝ }
 {
     let limit = numbers::limits::foot();
-    let finite = legs::core::feet_finite(a) & legs::core::feet_finite(b);
-    let permitted = legs::core::feet_permitted(limit, a) & legs::core::feet_permitted(limit, b);
-    door::either(door::unless(finite, 1), door::unless(permitted, 2))
+    if legs::core::feet_permitted(limit, a) & legs::core::feet_permitted(limit, b) {
+        0
+    } else {
+        door::outside(legs::core::feet_finite(a) & legs::core::feet_finite(b))
+    }
 }
 
 // The largest of the six distances between two sets of feet, in x, y and z.

@@ -1,2 +1,3 @@
 mod Signs
 pub mod OneAnswer
+pub mod OnePass

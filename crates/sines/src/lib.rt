@@ -6,28 +6,19 @@ ghost use mathlib.Core.Path.{_≡_};
 ghost use lib.Ieee.{Float};
 ghost use Rattle.numbers.specs.Answers.{told};
 ghost use Rattle.numbers.specs.declared.Answer.the-variants.{Value};
-ghost use Rattle.sines.specs.Entries.{refusal, sineTold, cosineTold};
+ghost use Rattle.sines.specs.Entries.{sineTold, cosineTold};
 ghost use Rattle.sines.specs.Bands.{SineOf, CosineOf};
 
 pub mod core;
 mod fixed;
 mod table;
 
-// Why x is turned away: 1 for a NaN or an infinity, 2 outside -16 to 16; 0 where it is taken.
-fn refused(x: f32) -> u32
-    ensures { λ r. ⌜ r ≡ refusal x ⌝ }
-{
-    let finite = door::is_finite(x);
-    let permitted = door::is_permitted(limits::sine_argument(), x);
-    door::either(door::unless(finite, 1), door::unless(permitted, 2))
-}
-
 // The sine of x radians, from -16 to 16.
 pub fn sine(x: f32) -> Answer
     ensures exact { λ r. ⌜ told r ≡ sineTold x ⌝ }
     ensures band { λ r. ⌜ ((y : Float) → r ≡ Value y → SineOf x y) ⌝ }
 {
-    let n = refused(x);
+    let n = door::refused(limits::sine_argument(), x);
     if n == 0 {
         Answer::Value(core::inside_sine(x))
     } else {
@@ -40,7 +31,7 @@ pub fn cosine(x: f32) -> Answer
     ensures exact { λ r. ⌜ told r ≡ cosineTold x ⌝ }
     ensures band { λ r. ⌜ ((y : Float) → r ≡ Value y → CosineOf x y) ⌝ }
 {
-    let n = refused(x);
+    let n = door::refused(limits::sine_argument(), x);
     if n == 0 {
         Answer::Value(core::inside_cosine(x))
     } else {

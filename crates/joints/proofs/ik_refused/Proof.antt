@@ -1,6 +1,11 @@
 -- `joints::ik_refused` meets its contract: what the first pass lets through is finite too.
+use mathlib.Core.Bool.{_&&_}
+use Rattle.numbers.specs.Limits.{foot as footLimit}
+use Rattle.legs.specs.Legs.{every, foot, finitePoint, permittedPoint}
+use Rattle.joints.specs.Configured.{finiteConfiguration, permittedConfiguration}
 use Rattle.joints.specs.Inverse.{ikRefusal}
-use Rattle.joints.proofs.OnePass.{let-through, outside, not-finite, feet-and-configuration}
+use Rattle.joints.proofs.OnePass.{feet-and-configuration}
+use Rattle.numbers.proofs.OnePass.{let-through, kept-out}
 use borrow.Author.Needs.{needs}
 use Rattle.joints.proofs.ik_refused.Statement.{statement}
 use Rattle.joints.proofs.ik_refused.Tie as tie
@@ -20,6 +25,9 @@ feet-finite-requires c κs = search needs
 finite-requires : tie.Need-finite-requires
 finite-requires c κs = search needs
 
+outside-requires : tie.Need-outside-requires
+outside-requires c κs = search needs
+
 returns : tie.Need-returns
 unfolding ikRefusal
 returns c =
@@ -29,16 +37,10 @@ returns c =
 returns-2 : tie.Need-returns-2
 unfolding ikRefusal
 returns-2 c =
-    outside
-    (simp (c .before .finite .ensures, c .before .before .feet-finite .ensures) at (c .if2 .taken))
-    (simp (c .before .before .before .before .permitted .ensures, c .before .before .before .before .before .feet-permitted .ensures, c .before .before .before .before .before .before .foot .ensures) at (c .before .before .before .if1 .left))
-
-returns-3 : tie.Need-returns-3
-unfolding ikRefusal
-returns-3 c =
-    not-finite
-    (simp (c .before .finite .ensures, c .before .before .feet-finite .ensures) at (c .if2 .left))
-    (simp (c .before .before .before .before .permitted .ensures, c .before .before .before .before .before .feet-permitted .ensures, c .before .before .before .before .before .before .foot .ensures) at (c .before .before .before .if1 .left))
+    let d = c .before .before .before .before in
+    let a = d .before .before .before .args in
+    let p = simp (d .permitted .ensures, d .before .feet-permitted .ensures, d .before .before .foot .ensures) at (c .before .before .before .if1 .left) in
+    simp (c .outside .ensures, c .before .finite .ensures, c .before .before .feet-finite .ensures) (kept-out (every (λ l. finitePoint (foot (a .feet) l)) && finiteConfiguration (a .config)) (every (λ l. permittedPoint footLimit (foot (a .feet) l)) && permittedConfiguration (a .config)) p)
 
 pub ik-refused-spec : {M : Type 1} → statement M
 ik-refused-spec =
@@ -49,6 +51,6 @@ ik-refused-spec =
     permitted-requires
     feet-finite-requires
     finite-requires
+    outside-requires
     returns
-    returns-2
-    returns-3)
+    returns-2)

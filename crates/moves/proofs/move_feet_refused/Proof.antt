@@ -1,5 +1,10 @@
--- `moves::move_feet_refused` meets its contract: the tests in the order of their numbers.
-use Rattle.moves.specs.Refusals.{moveFeetRefusal}
+-- `moves::move_feet_refused` meets its contract: what the first pass lets through is finite too.
+use mathlib.Core.Bool.{_&&_}
+use Rattle.numbers.specs.Door.{finite, permits}
+use Rattle.numbers.specs.Limits.{foot as footLimit, maxMove}
+use Rattle.numbers.proofs.OnePass.{let-through, kept-out}
+use Rattle.moves.specs.Refusals.{moveFeetRefusal, finiteFeet, permittedFeet}
+use Rattle.moves.proofs.OnePass.{feet-and-move}
 use borrow.Author.Needs.{needs}
 use Rattle.moves.proofs.move_feet_refused.Statement.{statement}
 use Rattle.moves.proofs.move_feet_refused.Tie as tie
@@ -10,15 +15,6 @@ foot-requires c κs = search needs
 max-move-requires : tie.Need-max-move-requires
 max-move-requires c κs = search needs
 
-feet-finite-requires : tie.Need-feet-finite-requires
-feet-finite-requires c κs = search needs
-
-feet-finite-requires-2 : tie.Need-feet-finite-requires-2
-feet-finite-requires-2 c κs = search needs
-
-is-finite-requires : tie.Need-is-finite-requires
-is-finite-requires c κs = search needs
-
 feet-permitted-requires : tie.Need-feet-permitted-requires
 feet-permitted-requires c κs = search needs
 
@@ -28,18 +24,33 @@ feet-permitted-requires-2 c κs = search needs
 is-permitted-requires : tie.Need-is-permitted-requires
 is-permitted-requires c κs = search needs
 
-unless-requires : tie.Need-unless-requires
-unless-requires c κs = search needs
+feet-finite-requires : tie.Need-feet-finite-requires
+feet-finite-requires c κs = search needs
 
-unless-requires-2 : tie.Need-unless-requires-2
-unless-requires-2 c κs = search needs
+feet-finite-requires-2 : tie.Need-feet-finite-requires-2
+feet-finite-requires-2 c κs = search needs
 
-either-requires : tie.Need-either-requires
-either-requires c κs = search needs
+is-finite-requires : tie.Need-is-finite-requires
+is-finite-requires c κs = search needs
+
+outside-requires : tie.Need-outside-requires
+outside-requires c κs = search needs
 
 returns : tie.Need-returns
 unfolding moveFeetRefusal
-returns c = simp (c .either .ensures, c .before .unless2 .ensures, c .before .before .unless .ensures, c .before .before .before .is-permitted .ensures, c .before .before .before .before .feet-permitted2 .ensures, c .before .before .before .before .before .feet-permitted .ensures, c .before .before .before .before .before .before .is-finite .ensures, c .before .before .before .before .before .before .before .feet-finite2 .ensures, c .before .before .before .before .before .before .before .before .feet-finite .ensures, c .before .before .before .before .before .before .before .before .before .max-move .ensures, c .before .before .before .before .before .before .before .before .before .before .foot .ensures)
+returns c =
+    let a = c .before .before .before .before .before .before .args in
+    let p = simp (c .before .is-permitted .ensures, c .before .before .feet-permitted2 .ensures, c .before .before .before .feet-permitted .ensures, c .before .before .before .before .max-move .ensures, c .before .before .before .before .before .foot .ensures) at (c .if1 .taken) in
+    let-through (feet-and-move (a .last) (a .target) (a .max-move) p) p
+
+returns-2 : tie.Need-returns-2
+unfolding moveFeetRefusal
+returns-2 c =
+    let d = c .before .before .before .before .before in
+    let a = d .before .before .before .before .before .args in
+    let p = simp (d .is-permitted .ensures, d .before .feet-permitted2 .ensures, d .before .before .feet-permitted .ensures, d .before .before .before .max-move .ensures, d .before .before .before .before .foot .ensures) at (c .before .before .before .before .if1 .left) in
+    simp (c .outside .ensures, c .before .is-finite .ensures, c .before .before .feet-finite2 .ensures, c .before .before .before .feet-finite .ensures)
+    (kept-out (finiteFeet (a .last) && finiteFeet (a .target) && finite (a .max-move)) (permittedFeet (a .last) && permittedFeet (a .target) && permits maxMove (a .max-move)) p)
 
 pub move-feet-refused-spec : {M : Type 1} → statement M
 move-feet-refused-spec =
@@ -47,13 +58,12 @@ move-feet-refused-spec =
     (tie.spec
     foot-requires
     max-move-requires
-    feet-finite-requires
-    feet-finite-requires-2
-    is-finite-requires
     feet-permitted-requires
     feet-permitted-requires-2
     is-permitted-requires
-    unless-requires
-    unless-requires-2
-    either-requires
-    returns)
+    feet-finite-requires
+    feet-finite-requires-2
+    is-finite-requires
+    outside-requires
+    returns
+    returns-2)

@@ -1,13 +1,18 @@
 -- `sines::cosine` meets its contract: refused where the door says so, else what the core gives, which keeps the band.
 use borrow.Author.Needs.{needs}
 use borrow.Author.Tests.{eq-eqb, ne-eqb}
-use mathlib.Core.Path.{_≡_, sym, _∙_, subst}
+use mathlib.Core.Path.{_≡_, refl, sym, ap, _∙_, subst}
 use Prim.Native.Nat.{ℕ}
 use native.Mathlib.Omega.{arith}
 use lib.Dec.{T}
 use lib.Ieee.{Float, binary32, fits}
+use mathlib.Core.List.{[], _∷_}
+use Rattle.numbers.specs.Door.{finite, permits, FiniteEnds, unless, firstOf}
+use Rattle.numbers.specs.declared.door.Limit.{Limit}
+use Rattle.numbers.specs.Limits.{sineArgument}
 use Rattle.numbers.specs.declared.Answer.the-variants.{Value, Refused}
 use Rattle.sines.specs.Bands.{CosineOf}
+use Rattle.sines.specs.Entries.{refusal}
 use Rattle.sines.specs.How.{cosine}
 use Rattle.sines.proofs.Sharp.{cosine-is}
 use Rattle.sines.proofs.Bands.{cosine-band}
@@ -25,27 +30,37 @@ same-value x y h = cc
 never : (n : ℕ) (y : Float) → Refused n ≡ Value y → _≡_ {A = ℕ} 0 1
 never n y h = cc
 
+sine-argument-requires : tie.Need-sine-argument-requires
+sine-argument-requires c κs = search needs
+
 refused-requires : tie.Need-refused-requires
-refused-requires c κs = search needs
+unfolding sineArgument finite
+refused-requires c κs = subst FiniteEnds (sym (c .sine-argument .ensures)) (refl, refl)
+
+-- the door's number is the definition's
+number : (c : tie.After-refused) → c .refused .result ≡ refusal (c .before .before .args .x)
+number c = c .refused .ensures ∙ ap (λ (l : Limit). firstOf (unless (finite (c .before .before .args .x)) 1 ∷ unless (permits l (c .before .before .args .x)) 2 ∷ [])) (c .before .sine-argument .ensures)
 
 inside-cosine-requires : tie.Need-inside-cosine-requires
-inside-cosine-requires c κs = taken-permitted (c .before .before .args .x) (sym (c .before .refused .ensures) ∙ c .if1 .taken)
+inside-cosine-requires c κs = taken-permitted (c .before .before .before .args .x) (sym (number (c .before)) ∙ c .if1 .taken)
 
 returns : tie.Need-returns
 returns c =
-    let s = c .before .before .before in
+    let s = c .before .before .before .before in
     let x = s .args .x in
     let p = inside-cosine-requires (c .before) tt in
     let e : c .inside-cosine .result ≡ cosine x = c .inside-cosine .ensures ∙ cosine-is x (held s) p in (
-      simp (e, ← c .before .before .refused .ensures, eq-eqb _ 0 (c .before .if1 .taken)),
+      simp (e, ← number (c .before .before), eq-eqb _ 0 (c .before .if1 .taken)),
       λ (y : Float) (v : Value (c .inside-cosine .result) ≡ Value y). subst (λ (r : Float). CosineOf x r) (sym e ∙ same-value (c .inside-cosine .result) y v) (cosine-band x (held s) p),
     )
 
 returns-2 : tie.Need-returns-2
 returns-2 c = (
-  simp (← c .before .refused .ensures, ne-eqb _ 0 (c .if1 .left)),
+  simp (← number (c .before), ne-eqb _ 0 (c .if1 .left)),
   λ (y : Float) (e : Refused (c .before .refused .result) ≡ Value y). absurd (let z : _≡_ {A = ℕ} 0 1 = never (c .before .refused .result) y e in omega arith),
 )
 
 pub cosine-spec : {M : Type 1} → statement M
-cosine-spec = tie.close (tie.spec refused-requires inside-cosine-requires returns returns-2)
+cosine-spec =
+    tie.close
+    (tie.spec sine-argument-requires refused-requires inside-cosine-requires returns returns-2)

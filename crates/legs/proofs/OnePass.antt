@@ -1,0 +1,21 @@
+-- Points and feet that are permitted are finite, where the row's ends are. Assumes nothing.
+use mathlib.Core.Path.{_≡_}
+use mathlib.Core.Bool.{Bool, true}
+use Rattle.numbers.specs.Door.{FiniteEnds}
+use Rattle.numbers.specs.declared.door.Limit.{Limit}
+use Rattle.numbers.proofs.OnePass.{in-row, both}
+use Rattle.legs.specs.Legs.{Leg, leftFront, rightFront, leftMiddle, rightMiddle, leftRear, rightRear, every, foot, finitePoint, permittedPoint}
+use Rattle.legs.specs.declared.Point.{Point}
+use Rattle.legs.specs.declared.Feet.{Feet}
+
+pub all-six : (s t : Leg → Bool) → ((l : Leg) → s l ≡ true → t l ≡ true) → every s ≡ true → every t ≡ true
+all-six s t f =
+    both (both (both (both (both (f leftFront) (f rightFront)) (f leftMiddle)) (f rightMiddle)) (f leftRear)) (f rightRear)
+
+module _ (l : Limit) (e : FiniteEnds l) where
+  pub point-finite : (p : Point) → permittedPoint l p ≡ true → finitePoint p ≡ true
+  unfolding permittedPoint finitePoint
+  point-finite p = both (both (in-row l e (p .x)) (in-row l e (p .y))) (in-row l e (p .z))
+
+  pub feet-finite : (f : Feet) → every (λ k. permittedPoint l (foot f k)) ≡ true → every (λ k. finitePoint (foot f k)) ≡ true
+  feet-finite f = all-six (λ k. permittedPoint l (foot f k)) (λ k. finitePoint (foot f k)) (λ k. point-finite (foot f k))

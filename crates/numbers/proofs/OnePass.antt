@@ -1,0 +1,40 @@
+-- What is permitted is finite. So one pass of comparisons lets good numbers through, and only where it fails a second tells refusal 1 from 2. Assumes nothing.
+use mathlib.Core.Path.{_≡_, refl, sym}
+use mathlib.Core.Bool.{Bool, true, false, _&&_, true≢false}
+use lib.Ieee.{Float, nan, inf, fin, lt, eq, le}
+use Rattle.numbers.specs.Told.{choose}
+use Rattle.numbers.specs.Door.{finite, within, permits, FiniteEnds, unless, either}
+use Rattle.numbers.specs.declared.door.Limit.{Limit}
+
+-- ---- the refusal by one pass
+pub let-through : {F P : Bool} → F ≡ true → P ≡ true → 0 ≡ either (unless F 1) (unless P 2)
+let-through f p = simp (f, p)
+
+pub kept-out : (F P : Bool) → P ≡ false → choose F 2 1 ≡ either (unless F 1) (unless P 2)
+kept-out true P p = simp p
+kept-out false P p = refl
+
+-- ---- between two finite ends lies no NaN and no infinity
+between : (lo hi x : Float) → finite lo ≡ true → finite hi ≡ true → within lo hi x ≡ true → finite x ≡ true
+unfolding finite le lt eq
+between lo hi (fin s m e) f g h = refl
+between nan hi nan f g h = f
+between nan hi (inf t) f g h = f
+between (inf s) hi nan f g h = f
+between (inf s) hi (inf t) f g h = f
+between (fin s m e) hi nan f g h = h
+between (fin s m e) hi (inf true) f g h = h
+between (fin s m e) nan (inf false) f g h = g
+between (fin s m e) (inf t) (inf false) f g h = g
+between (fin s m e) (fin t n d) (inf false) f g h = h
+
+pub in-row : (l : Limit) → FiniteEnds l → (x : Float) → permits l x ≡ true → finite x ≡ true
+in-row l e x h = between (l .from) (l .to) x (e .0) (e .1) h
+
+-- ---- of two tests at once
+pub both : {a b c d : Bool} → (a ≡ true → c ≡ true) → (b ≡ true → d ≡ true) → (a && b) ≡ true → (c && d) ≡ true
+both {a} {b} {c} {d} f g h = go a f h
+  where
+    go : (a : Bool) → (a ≡ true → c ≡ true) → (a && b) ≡ true → (c && d) ≡ true
+    go true f h = simp (f refl, g h)
+    go false f h = absurd (true≢false (sym h))
