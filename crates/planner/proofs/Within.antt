@@ -1,5 +1,6 @@
 -- No number passes a limit inside: where the door lets feet and a command through, every argument that the planner hands to sine, cosine and atan2 is within
 -- document 01's row for it. A coordinate is at most 4, a centred one 8, a product 32, a turn 4, and half a rotation 2.
+use Rattle.commands.specs.Constants.{nought}
 use mathlib.Core.Path.{_≡_, refl}
 use mathlib.Core.Bool.{Bool, true, false, _&&_, _||_}
 use mathlib.Core.List.{[], _∷_}
@@ -27,7 +28,7 @@ use Rattle.commands.specs.Command.{finiteCommand, permittedCommand}
 use Rattle.commands.specs.declared.Tripod.{Tripod}
 use Rattle.commands.specs.declared.Tripod.the-variants.{LRL, RLR}
 use Rattle.commands.specs.declared.MoveCommand.{MoveCommand}
-use Rattle.planner.specs.Turns.{nought, isZero, across, along, turnBetween}
+use Rattle.planner.specs.Turns.{isZero, across, along, turnBetween}
 use Rattle.planner.specs.Plan.{two, three, third, summed, inRow, centre, between, averageTurn, ahead, back}
 use Rattle.planner.specs.Entry.{finiteFeet, permittedFeet, planRefusal}
 use Rattle.planner.specs.declared.core.Trio.{Trio}

@@ -1,4 +1,5 @@
 -- A step by distance hands the root and the sine nothing outside their tables: the root by `moves`, and the progress is never more than 1.
+use Rattle.commands.specs.Constants.{nought}
 use mathlib.Core.Path.{_≡_, refl, sym, _∙_, subst}
 use mathlib.Core.Bool.{Bool, true, false, not, _&&_, true≢false}
 use mathlib.Core.List.{[], _∷_}
@@ -35,7 +36,7 @@ use Rattle.moves.proofs.Squares.{horizontal-sum-permitted}
 use Rattle.steps.specs.Leg.{halfTurn}
 use Rattle.steps.specs.Progress.{stepProgress}
 use Rattle.steps.specs.Refusals.{finiteCourse, permittedCourse, stepRefusal}
-use Rattle.steps.specs.Next.{nothing, stepEnded}
+use Rattle.steps.specs.Next.{stepEnded}
 use Rattle.steps.specs.declared.StepIterator.{StepIterator}
 use Rattle.steps.proofs.Times.{Above}
 use Rattle.steps.proofs.Within.{half-turn-between}
@@ -92,15 +93,15 @@ module _ (a b : Feet) (A : HeldFeet a) (B : HeldFeet b) (h : T (permittedFeet a)
 distance-between : {x : Float} → Distance x → Between 0 256 x
 distance-between {x} d = made 0 256 x (d .q) 0 (d .held) (plus-part binary32 x (d .q) (d .value)) zero-le (d .few)
 
-nothing-part : Part binary32 nothing 0 0
-unfolding nothing over
-nothing-part = (refl, refl)
+nought-part : Part binary32 nought 0 0
+unfolding nought over
+nought-part = (refl, refl)
 
-above : {x : Float} → Distance x → eq x nothing ≡ false → Above x
+above : {x : Float} → Distance x → eq x nought ≡ false → Above x
 above {x} d h = by-size (d .q) (d .value)
   where
     by-size : (q : ℕ) → HasValue x false q unity → Above x
-    by-size zero v = absurd (true≢false (sym (holds (eq x nothing) (eq-part binary32 x nothing 0 0 0 0 (plus-part binary32 x 0 v) nothing-part .1 refl)) ∙ h))
+    by-size zero v = absurd (true≢false (sym (holds (eq x nought) (eq-part binary32 x nought 0 0 0 0 (plus-part binary32 x 0 v) nought-part .1 refl)) ∙ h))
       where
         holds : (b : Bool) → T b → b ≡ true
         holds true t = refl

@@ -1,6 +1,7 @@
 -- `planner::core::step_with_relaxed_transformation` meets its contract: what each call gives is the part of the plan that it computes.
+use Rattle.commands.proofs.Constants.{nought-bits}
 use Rattle.planner.proofs.Together.{together}
-use Rattle.planner.proofs.Bits.{nought-bits, two-bits}
+use Rattle.planner.proofs.Bits.{two-bits}
 use borrow.Author.Needs.{needs}
 use Rattle.planner.proofs.core.step_with_relaxed_transformation.Statement.{statement}
 use Rattle.planner.proofs.core.step_with_relaxed_transformation.Tie as tie

@@ -1,6 +1,6 @@
 -- `planner::turns::turn` meets its contract: our cosine and sine, and the bits of 0 and 1.
+use Rattle.commands.proofs.Constants.{nought-bits, one-bits}
 use Rattle.planner.specs.Turns.{turn}
-use Rattle.planner.proofs.Bits.{nought-bits, one-bits}
 use borrow.Author.Needs.{needs}
 use Rattle.planner.proofs.turns.turn.Statement.{statement}
 use Rattle.planner.proofs.turns.turn.Tie as tie

@@ -1,6 +1,6 @@
 -- `planner::turns::turn_between` meets its contract, by its one test.
+use Rattle.commands.proofs.Constants.{nought-bits}
 use Rattle.planner.specs.Turns.{turnBetween}
-use Rattle.planner.proofs.Bits.{nought-bits}
 use borrow.Author.Needs.{needs}
 use Rattle.planner.proofs.turns.turn_between.Statement.{statement}
 use Rattle.planner.proofs.turns.turn_between.Tie as tie

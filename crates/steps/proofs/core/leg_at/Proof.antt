@@ -1,6 +1,6 @@
 -- `steps::core::leg_at` meets its contract, by its two tests.
+use Rattle.commands.proofs.Constants.{one-bits}
 use Rattle.steps.specs.How.{legAt}
-use Rattle.steps.proofs.Bits.{one-bits}
 use borrow.Author.Needs.{needs}
 use Rattle.steps.proofs.core.leg_at.Statement.{statement}
 use Rattle.steps.proofs.core.leg_at.Tie as tie

@@ -1,6 +1,6 @@
 -- `steps::core::next_step` meets its contract: by whether it has ended, and by what the legs did.
+use Rattle.commands.proofs.Constants.{nought-bits}
 use Rattle.steps.specs.Next.{nextStep}
-use Rattle.steps.proofs.Bits.{nothing-bits}
 use borrow.Author.Needs.{needs}
 use Rattle.steps.proofs.core.next_step.Statement.{statement}
 use Rattle.steps.proofs.core.next_step.Tie as tie
@@ -10,7 +10,7 @@ max-horizontal-distance-requires c κs = search needs
 
 returns : tie.Need-returns
 unfolding nextStep
-returns c = simp (← nothing-bits, c .if1 .taken, ← c .before .max-horizontal-distance .ensures)
+returns c = simp (← nought-bits, c .if1 .taken, ← c .before .max-horizontal-distance .ensures)
 
 max-horizontal-distance-requires-2 : tie.Need-max-horizontal-distance-requires-2
 max-horizontal-distance-requires-2 c κs = search needs
@@ -31,7 +31,7 @@ returns-2 : tie.Need-returns-2
 unfolding nextStep
 returns-2 c =
     simp (
-      ← nothing-bits,
+      ← nought-bits,
       ← c .before .before .before .shift-legs .ensures,
       ← c .before .before .before .before .step-progress .ensures,
       ← c .before .before .before .before .before .max-horizontal-distance2 .ensures,
@@ -44,7 +44,7 @@ returns-3 : tie.Need-returns-3
 unfolding nextStep
 returns-3 c =
     simp (
-      ← nothing-bits,
+      ← nought-bits,
       ← c .before .before .shift-legs .ensures,
       ← c .before .before .before .step-progress .ensures,
       ← c .before .before .before .before .max-horizontal-distance2 .ensures,

@@ -1,6 +1,7 @@
 -- `steps::core::swing` meets its contract, by its one test.
+use Rattle.commands.proofs.Constants.{nought-bits, one-bits}
 use Rattle.steps.specs.How.{swing}
-use Rattle.steps.proofs.Bits.{nothing-bits, one-bits, half-turn-bits}
+use Rattle.steps.proofs.Bits.{half-turn-bits}
 use borrow.Author.Needs.{needs}
 use Rattle.steps.proofs.core.swing.Statement.{statement}
 use Rattle.steps.proofs.core.swing.Tie as tie
@@ -10,7 +11,7 @@ sine-requires c κs = search needs
 
 returns : tie.Need-returns
 unfolding swing
-returns c = simp (← one-bits, ← nothing-bits, c .if1 .taken)
+returns c = simp (← one-bits, ← nought-bits, c .if1 .taken)
 
 returns-2 : tie.Need-returns-2
 unfolding swing
