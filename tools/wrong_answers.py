@@ -16,14 +16,14 @@ NAMED = {
 
 # The entries of docs/API.md, each with edits that change its answer, in its own text or in what it calls.
 SHARED_STEP = "moves/arrival_by_bits moves/constant_foot moves/standing_called_moved moves/target_is_not_looked_at"
-SHARED_NEXT = "steps/a_leg_left_out_of_the_flag steps/at_once_at_exactly_half steps/the_standing_three_are_lifted"
+SHARED_NEXT = "steps/at_once_at_exactly_half steps/the_standing_three_are_lifted"
 ENTRIES = {
-    "absolute": "numbers/absolute_refuses_2 numbers/magnitude_keeps_the_sign numbers/zero_keeps_its_sign",
+    "absolute": "numbers/magnitude_keeps_the_sign numbers/zero_keeps_its_sign",
     "min": "numbers/min_gives_the_second numbers/min_takes_them_the_other_way_round",
     "max": "numbers/max_gives_the_second numbers/max_takes_them_the_other_way_round",
     "square_root": "roots/entry_infinity_is_2 roots/entry_root_of_the_opposite roots/core_rounds_down",
     "sine": "sines/sine_sign_lost sines/sine_rounds_askew sines/narrow_sine_band",
-    "cosine": "sines/cosine_of_zero_is_zero sines/cosine_swaps_the_pair sines/narrow_cosine_band",
+    "cosine": "sines/cosine_of_zero_is_zero sines/cosine_swaps_the_pair",
     "arc_cosine": "arcs/lost_sign_of_q arcs/no_second_refusal arcs/narrow_wedge",
     "atan2": "arcs/lost_sign_of_y arcs/sides_swapped arcs/zeros_swapped",
     "from_pattern": "numbers/nan_pattern_is_a_number numbers/nan_pattern_is_infinite",
@@ -32,7 +32,7 @@ ENTRIES = {
     "from_legs": "legs/record_forgets_a_leg legs/record_in_field_order",
     "merge_with": "legs/merge_refuses_2_first legs/merge_takes_another_bit legs/mask_64_is_taken",
     "selected_legs": "legs/selected_in_field_order legs/selected_skips_a_place legs/mask_64_is_taken",
-    "updated_from_selected_legs": "rows/count_of_ones_is_the_mask rows/fewer_values_are_taken rows/seventh_value_is_not_looked_at rows/sixth_leg_is_skipped",
+    "updated_from_selected_legs": "rows/count_of_ones_is_the_mask rows/seventh_value_is_not_looked_at rows/sixth_leg_is_skipped",
     "updated_from_first": "rows/all_64_are_lent rows/the_last_of_64_is_left_out",
     "move_towards": SHARED_STEP,
     "move_vector_towards": "moves/vector_moves_away " + SHARED_STEP,

@@ -1,6 +1,6 @@
 -- No second answer fits: for every entry, and every core behind one, what comes in settles what goes out, refusals included. Each law is stated over the
 -- function's own contract, as the checker has it (`Post`): what is passed, the answer, and what the caller holds at the end. One general law serves all
--- (`one-answer`): a contract that is an equation of what is told, where telling loses nothing.
+-- (`one-answer`): a contract that is an equation of what is told, where telling loses nothing. Made by tools/one_answer.py.
 use mathlib.Core.Path.{_≡_}
 use Rattle.numbers.proofs.OneAnswer.{one-answer}
 use Rattle.numbers.specs.Answers as numbers
@@ -36,7 +36,9 @@ use Rattle.arcs.proofs.core.arc_cosine.Reads as arcs-core-arc-cosine
 use Rattle.arcs.proofs.core.atan2.Reads as arcs-core-atan2
 use Rattle.legs.proofs.as_legs.Reads as legs-as-legs
 use Rattle.legs.proofs.from_legs.Reads as legs-from-legs
+use Rattle.legs.proofs.merge_refused.Reads as legs-merge-refused
 use Rattle.legs.proofs.merge_with.Reads as legs-merge-with
+use Rattle.legs.proofs.selected_refused.Reads as legs-selected-refused
 use Rattle.legs.proofs.selected_legs.Reads as legs-selected-legs
 use Rattle.legs.proofs.core.chosen.Reads as legs-core-chosen
 use Rattle.legs.proofs.core.point_finite.Reads as legs-core-point-finite
@@ -49,6 +51,8 @@ use Rattle.legs.proofs.core.none_selected.Reads as legs-core-none-selected
 use Rattle.legs.proofs.core.selected_legs.Reads as legs-core-selected-legs
 use Rattle.legs.proofs.core.updated.Reads as legs-core-updated
 use Rattle.rows.proofs.updated_from_first.Reads as rows-updated-from-first
+use Rattle.moves.proofs.move_refused.Reads as moves-move-refused
+use Rattle.moves.proofs.move_feet_refused.Reads as moves-move-feet-refused
 use Rattle.moves.proofs.move_towards.Reads as moves-move-towards
 use Rattle.moves.proofs.move_vector_towards.Reads as moves-move-vector-towards
 use Rattle.moves.proofs.move_feet_towards.Reads as moves-move-feet-towards
@@ -56,6 +60,7 @@ use Rattle.moves.proofs.to_move_towards_iter.Reads as moves-to-move-towards-ite
 use Rattle.moves.proofs.feet_to_move_towards_iter.Reads as moves-feet-to-move-towards-iter
 use Rattle.moves.proofs.MovingPoint.next.Reads as moves-MovingPoint-next
 use Rattle.moves.proofs.MovingFeet.next.Reads as moves-MovingFeet-next
+use Rattle.moves.proofs.longest_refused.Reads as moves-longest-refused
 use Rattle.moves.proofs.longest_distance.Reads as moves-longest-distance
 use Rattle.moves.proofs.core.is_same.Reads as moves-core-is-same
 use Rattle.moves.proofs.core.square_sum.Reads as moves-core-square-sum
@@ -70,16 +75,19 @@ use Rattle.moves.proofs.core.next_point.Reads as moves-core-next-point
 use Rattle.moves.proofs.core.next_feet.Reads as moves-core-next-feet
 use Rattle.moves.proofs.core.longest_distance.Reads as moves-core-longest-distance
 use Rattle.moves.proofs.core.max_horizontal_distance.Reads as moves-core-max-horizontal-distance
+use Rattle.walks.proofs.walk_refused.Reads as walks-walk-refused
+use Rattle.walks.proofs.walk_feet_refused.Reads as walks-walk-feet-refused
 use Rattle.walks.proofs.walk.Reads as walks-walk
 use Rattle.walks.proofs.walk_feet.Reads as walks-walk-feet
 use Rattle.walks.proofs.core.walk.Reads as walks-core-walk
 use Rattle.walks.proofs.core.walk_feet.Reads as walks-core-walk-feet
+use Rattle.commands.proofs.Tripod.invert.Reads as commands-Tripod-invert
+use Rattle.commands.proofs.Tripod.as_flag.Reads as commands-Tripod-as-flag
 use Rattle.commands.proofs.MoveCommand.default.Reads as commands-MoveCommand-default
 use Rattle.commands.proofs.MoveCommand.new.Reads as commands-MoveCommand-new
 use Rattle.commands.proofs.MoveCommand.with_optional_fields.Reads as commands-MoveCommand-with-optional-fields
+use Rattle.commands.proofs.MoveCommand.refused.Reads as commands-MoveCommand-refused
 use Rattle.commands.proofs.MoveCommand.should_move.Reads as commands-MoveCommand-should-move
-use Rattle.commands.proofs.Tripod.invert.Reads as commands-Tripod-invert
-use Rattle.commands.proofs.Tripod.as_flag.Reads as commands-Tripod-as-flag
 use Rattle.commands.proofs.core.is_elapsed.Reads as commands-core-is-elapsed
 use Rattle.commands.proofs.core.is_period.Reads as commands-core-is-period
 use Rattle.commands.proofs.core.rounded.Reads as commands-core-rounded
@@ -87,8 +95,12 @@ use Rattle.commands.proofs.core.as_secs_f32.Reads as commands-core-as-secs-f32
 use Rattle.commands.proofs.core.command_finite.Reads as commands-core-command-finite
 use Rattle.commands.proofs.core.command_permitted.Reads as commands-core-command-permitted
 use Rattle.commands.proofs.core.should_move.Reads as commands-core-should-move
+use Rattle.steps.proofs.progress_refused.Reads as steps-progress-refused
 use Rattle.steps.proofs.timed_progress.Reads as steps-timed-progress
 use Rattle.steps.proofs.even_progress.Reads as steps-even-progress
+use Rattle.steps.proofs.step_refused.Reads as steps-step-refused
+use Rattle.steps.proofs.lift_refused.Reads as steps-lift-refused
+use Rattle.steps.proofs.at_refused.Reads as steps-at-refused
 use Rattle.steps.proofs.StepIterator.step.Reads as steps-StepIterator-step
 use Rattle.steps.proofs.StepIterator.next.Reads as steps-StepIterator-next
 use Rattle.steps.proofs.TimedStepIterator.step.Reads as steps-TimedStepIterator-step
@@ -105,9 +117,12 @@ use Rattle.steps.proofs.core.next_timed.Reads as steps-core-next-timed
 use Rattle.steps.proofs.core.next_even.Reads as steps-core-next-even
 use Rattle.steps.proofs.core.course_finite.Reads as steps-core-course-finite
 use Rattle.steps.proofs.core.course_permitted.Reads as steps-core-course-permitted
+use Rattle.planner.proofs.plan_refused.Reads as planner-plan-refused
 use Rattle.planner.proofs.step_with_relaxed_transformation.Reads as planner-step-with-relaxed-transformation
 use Rattle.planner.proofs.core.step_with_relaxed_transformation.Reads as planner-core-step-with-relaxed-transformation
+use Rattle.joints.proofs.ik_refused.Reads as joints-ik-refused
 use Rattle.joints.proofs.calculate_ik.Reads as joints-calculate-ik
+use Rattle.joints.proofs.fk_refused.Reads as joints-fk-refused
 use Rattle.joints.proofs.calculate_fk.Reads as joints-calculate-fk
 use Rattle.joints.proofs.core.relative.Reads as joints-core-relative
 use Rattle.joints.proofs.core.reach_of.Reads as joints-core-reach-of
@@ -128,7 +143,7 @@ Settled {I} {A} C = (i : I) (a b : A) → C i a i → C i b i → a ≡ b
 one-value : {A : Type 0} {said : A} (a b : A) → a ≡ said → b ≡ said → a ≡ b
 one-value {A} = one-answer (λ (a : A). a) (λ a b e. e)
 
--- ---- absolute value, min, max, patterns
+-- ---- numbers
 pub settled-numbers-absolute : Settled (numbers-absolute.Post tt)
 settled-numbers-absolute i = one-answer numbers.told numbers-one.told-loses-nothing
 
@@ -153,14 +168,14 @@ settled-numbers-core-min i = one-value
 pub settled-numbers-core-max : Settled (numbers-core-max.Post tt)
 settled-numbers-core-max i = one-value
 
--- ---- the square root
+-- ---- roots
 pub settled-roots-square-root : Settled (roots-square-root.Post tt)
 settled-roots-square-root i = one-answer numbers.told numbers-one.told-loses-nothing
 
 pub settled-roots-core-square-root : Settled (roots-core-square-root.Post tt)
 settled-roots-core-square-root i = one-value
 
--- ---- sine and cosine, by the exact half of their contracts
+-- ---- sines
 pub settled-sines-sine : Settled (sines-sine.Post tt)
 settled-sines-sine i a b p q = one-answer numbers.told numbers-one.told-loses-nothing a b (p .0) (q .0)
 
@@ -173,7 +188,7 @@ settled-sines-core-sine i a b p q = one-value a b (p .0) (q .0)
 pub settled-sines-core-cosine : Settled (sines-core-cosine.Post tt)
 settled-sines-core-cosine i a b p q = one-value a b (p .0) (q .0)
 
--- ---- arc cosine and atan2, likewise
+-- ---- arcs
 pub settled-arcs-arc-cosine : Settled (arcs-arc-cosine.Post tt)
 settled-arcs-arc-cosine i a b p q = one-answer numbers.told numbers-one.told-loses-nothing a b (p .0) (q .0)
 
@@ -193,8 +208,14 @@ settled-legs-as-legs i = one-value
 pub settled-legs-from-legs : Settled (legs-from-legs.Post tt)
 settled-legs-from-legs i = one-value
 
+pub settled-legs-merge-refused : Settled (legs-merge-refused.Post tt)
+settled-legs-merge-refused i = one-value
+
 pub settled-legs-merge-with : Settled (legs-merge-with.Post tt)
 settled-legs-merge-with i = one-answer legs.told legs-one.told-loses-nothing
+
+pub settled-legs-selected-refused : Settled (legs-selected-refused.Post tt)
+settled-legs-selected-refused i = one-value
 
 pub settled-legs-selected-legs : Settled (legs-selected-legs.Post tt)
 settled-legs-selected-legs i = one-answer legs.toldSelected legs-one.toldSelected-loses-nothing
@@ -229,11 +250,17 @@ settled-legs-core-selected-legs i = one-value
 pub settled-legs-core-updated : Settled (legs-core-updated.Post tt)
 settled-legs-core-updated i = one-value
 
--- ---- lent rows
+-- ---- rows
 pub settled-rows-updated-from-first : Settled (rows-updated-from-first.Post tt)
 settled-rows-updated-from-first i = one-answer legs.told legs-one.told-loses-nothing
 
--- ---- foot moves
+-- ---- moves
+pub settled-moves-move-refused : Settled (moves-move-refused.Post tt)
+settled-moves-move-refused i = one-value
+
+pub settled-moves-move-feet-refused : Settled (moves-move-feet-refused.Post tt)
+settled-moves-move-feet-refused i = one-value
+
 pub settled-moves-move-towards : Settled (moves-move-towards.Post tt)
 settled-moves-move-towards i = one-answer moves.told moves-one.told-loses-nothing
 
@@ -254,6 +281,9 @@ settled-moves-MovingPoint-next i = one-answer moves.toldNextPoint moves-one.told
 
 pub settled-moves-MovingFeet-next : Settled (moves-MovingFeet-next.Post tt)
 settled-moves-MovingFeet-next i = one-answer moves.toldNextFeet moves-one.toldNextFeet-loses-nothing
+
+pub settled-moves-longest-refused : Settled (moves-longest-refused.Post tt)
+settled-moves-longest-refused i = one-value
 
 pub settled-moves-longest-distance : Settled (moves-longest-distance.Post tt)
 settled-moves-longest-distance i = one-answer numbers.told numbers-one.told-loses-nothing
@@ -298,6 +328,12 @@ pub settled-moves-core-max-horizontal-distance : Settled (moves-core-max-horizon
 settled-moves-core-max-horizontal-distance i = one-value
 
 -- ---- walks
+pub settled-walks-walk-refused : Settled (walks-walk-refused.Post tt)
+settled-walks-walk-refused i = one-value
+
+pub settled-walks-walk-feet-refused : Settled (walks-walk-feet-refused.Post tt)
+settled-walks-walk-feet-refused i = one-value
+
 pub settled-walks-walk : Settled (walks-walk.Post tt)
 settled-walks-walk i a b p q = walks-one.walk-settled (i .0) a b (i .1 .0) (i .1 .1 .0) p q
 
@@ -311,6 +347,12 @@ pub settled-walks-core-walk-feet : Settled (walks-core-walk-feet.Post tt)
 settled-walks-core-walk-feet i = walks-one.one-count-of-feet (i .0) (i .1 .0) (i .1 .1 .0)
 
 -- ---- commands
+pub settled-commands-Tripod-invert : Settled (commands-Tripod-invert.Post tt)
+settled-commands-Tripod-invert i = one-value
+
+pub settled-commands-Tripod-as-flag : Settled (commands-Tripod-as-flag.Post tt)
+settled-commands-Tripod-as-flag i = one-value
+
 pub settled-commands-MoveCommand-default : Settled (commands-MoveCommand-default.Post tt)
 settled-commands-MoveCommand-default i = one-value
 
@@ -320,14 +362,11 @@ settled-commands-MoveCommand-new i = one-answer commands.told commands-one.told-
 pub settled-commands-MoveCommand-with-optional-fields : Settled (commands-MoveCommand-with-optional-fields.Post tt)
 settled-commands-MoveCommand-with-optional-fields i = one-answer commands.told commands-one.told-loses-nothing
 
+pub settled-commands-MoveCommand-refused : Settled (commands-MoveCommand-refused.Post tt)
+settled-commands-MoveCommand-refused i = one-value
+
 pub settled-commands-MoveCommand-should-move : Settled (commands-MoveCommand-should-move.Post tt)
 settled-commands-MoveCommand-should-move i = one-answer commands.toldShould commands-one.toldShould-loses-nothing
-
-pub settled-commands-Tripod-invert : Settled (commands-Tripod-invert.Post tt)
-settled-commands-Tripod-invert i = one-value
-
-pub settled-commands-Tripod-as-flag : Settled (commands-Tripod-as-flag.Post tt)
-settled-commands-Tripod-as-flag i = one-value
 
 pub settled-commands-core-is-elapsed : Settled (commands-core-is-elapsed.Post tt)
 settled-commands-core-is-elapsed i = one-value
@@ -351,11 +390,23 @@ pub settled-commands-core-should-move : Settled (commands-core-should-move.Post 
 settled-commands-core-should-move i = one-value
 
 -- ---- steps
+pub settled-steps-progress-refused : Settled (steps-progress-refused.Post tt)
+settled-steps-progress-refused i = one-value
+
 pub settled-steps-timed-progress : Settled (steps-timed-progress.Post tt)
 settled-steps-timed-progress i = one-answer numbers.told numbers-one.told-loses-nothing
 
 pub settled-steps-even-progress : Settled (steps-even-progress.Post tt)
 settled-steps-even-progress i = one-answer numbers.told numbers-one.told-loses-nothing
+
+pub settled-steps-step-refused : Settled (steps-step-refused.Post tt)
+settled-steps-step-refused i = one-value
+
+pub settled-steps-lift-refused : Settled (steps-lift-refused.Post tt)
+settled-steps-lift-refused i = one-value
+
+pub settled-steps-at-refused : Settled (steps-at-refused.Post tt)
+settled-steps-at-refused i = one-value
 
 pub settled-steps-StepIterator-step : Settled (steps-StepIterator-step.Post tt)
 settled-steps-StepIterator-step i = one-answer steps.toldStepIter steps-one.toldStepIter-loses-nothing
@@ -405,7 +456,10 @@ settled-steps-core-course-finite i = one-value
 pub settled-steps-core-course-permitted : Settled (steps-core-course-permitted.Post tt)
 settled-steps-core-course-permitted i = one-value
 
--- ---- the planner
+-- ---- planner
+pub settled-planner-plan-refused : Settled (planner-plan-refused.Post tt)
+settled-planner-plan-refused i = one-value
+
 pub settled-planner-step-with-relaxed-transformation : Settled (planner-step-with-relaxed-transformation.Post tt)
 settled-planner-step-with-relaxed-transformation i = one-answer legs.told legs-one.told-loses-nothing
 
@@ -413,8 +467,14 @@ pub settled-planner-core-step-with-relaxed-transformation : Settled (planner-cor
 settled-planner-core-step-with-relaxed-transformation i = one-value
 
 -- ---- joints
+pub settled-joints-ik-refused : Settled (joints-ik-refused.Post tt)
+settled-joints-ik-refused i = one-value
+
 pub settled-joints-calculate-ik : Settled (joints-calculate-ik.Post tt)
 settled-joints-calculate-ik i = one-answer joints.told joints-one.told-loses-nothing
+
+pub settled-joints-fk-refused : Settled (joints-fk-refused.Post tt)
+settled-joints-fk-refused i = one-value
 
 pub settled-joints-calculate-fk : Settled (joints-calculate-fk.Post tt)
 settled-joints-calculate-fk i = one-answer legs.told legs-one.told-loses-nothing

@@ -24,13 +24,12 @@ use Rattle.units.proofs.Door.{permitted}
 use Rattle.units.proofs.Table.{root-argument-ends}
 use Rattle.roots.specs.Root.{squareRoot}
 use Rattle.roots.proofs.Laws.{rooted, root-fits, root-high}
-use Rattle.legs.specs.Legs.{Leg, leftFront, rightFront, leftMiddle, rightMiddle, leftRear, rightRear, foot, permittedPoint}
+use Rattle.legs.specs.Legs.{Leg, leftFront, rightFront, leftMiddle, rightMiddle, leftRear, rightRear, foot, permittedPoint, permittedFeet}
 use Rattle.legs.specs.declared.Feet.{Feet}
 use Rattle.bounds.specs.Between.{Between, HeldFeet}
 use Rattle.bounds.proofs.Between.{made, result-between, sum-between, product-between}
 use Rattle.bounds.proofs.Rows.{at-max-move, sine-row, each}
 use Rattle.moves.specs.Distance.{horizontalSum, horizontalDistance, maxHorizontalDistance}
-use Rattle.moves.specs.Refusals.{permittedFeet}
 use Rattle.moves.proofs.Largest.{Rootable, upward, horizontal-sum-rootable}
 use Rattle.moves.proofs.Squares.{horizontal-sum-permitted}
 use Rattle.steps.specs.Leg.{halfTurn}
@@ -75,7 +74,7 @@ greater-distance {x} {y} a b = by-test (lt x y)
     by-test false = a
 
 -- what the root is handed, leg by leg
-module _ (a b : Feet) (A : HeldFeet a) (B : HeldFeet b) (h : T (permittedFeet a)) (k : T (permittedFeet b)) where
+module _ (a b : Feet) (A : HeldFeet a) (B : HeldFeet b) (h : T (permittedFeet rows.foot a)) (k : T (permittedFeet footLimit b)) where
   pub root-within : (l : Leg) → T (permits rows.rootArgument (horizontalSum (foot a l) (foot b l)))
   root-within l =
       horizontal-sum-permitted (foot a l) (foot b l)
@@ -179,9 +178,9 @@ module _ (s : StepIterator) (A : HeldFeet (s .start)) (B : HeldFeet (s .last)) (
       let move = permits rows.maxMove (s .«max_move») in
       let c = and-l all move (and-l (all && move) (permits rows.direction (s .«step_height»)) taken) in
       let m = at-max-move (s .«max_move») M (and-r all move (and-l (all && move) (permits rows.direction (s .«step_height»)) taken)) in
-      let i = permittedFeet (s .start) in
-      let j = permittedFeet (s .last) in
-      let k = permittedFeet (s .target) in
+      let i = permittedFeet rows.foot (s .start) in
+      let j = permittedFeet rows.foot (s .last) in
+      let k = permittedFeet rows.foot (s .target) in
       let ij = and-l (i && j) k c in
       let start = and-l i j ij in
       let f = longest-distance (s .start) (s .target) A C start (and-r (i && j) k c) in
