@@ -6,9 +6,10 @@ import os
 import struct
 import subprocess
 
+from draw_panel import COLOURS, Panel, legend, picture
+
 ROOT = os.path.join(os.path.dirname(os.path.abspath(__file__)), "..")
 NAMES = ["left front", "right front", "left middle", "right middle", "left rear", "right rear"]
-COLOURS = ["#0b6e99", "#c2571a", "#3a8f3a", "#8a4fa3", "#b8860b", "#b03060"]
 RELAXED = [(0.18, 0.14), (0.18, -0.14), (0.0, 0.19), (0.0, -0.19), (-0.18, 0.14), (-0.18, -0.14)]
 HEIGHT, GROUND, PERIOD, FRAMES = 0.03, -0.11, 600_000_000, 40
 COMMAND = (0.035, 0.0, 0.12)  # direction x, y in metres, rotation in radians
@@ -48,39 +49,36 @@ def steps(start, target, tripod):
     return [start] + [read(a[2:]) for a in ask(lines)]
 
 
-def path(points):
-    return "M" + " L".join(f"{x:.1f} {y:.1f}" for x, y in points)
+def cycle():
+    """The feet of each frame of one whole cycle, after a half step to fall into the gait."""
+    relaxed = [(x, y, GROUND) for x, y in RELAXED]
+    frames, feet = [], relaxed
+    for half, tripod in enumerate((0, 1, 0)):
+        made = steps(feet, plan(feet, relaxed, tripod), tripod)
+        feet = made[-1]
+        if half:
+            frames += made[1:] if frames else made
+    return frames
 
 
 def main():
-    relaxed = [(x, y, GROUND) for x, y in RELAXED]
-    frames, feet = [], relaxed
-    # a half step to fall into the gait, then one whole cycle
-    for half, tripod in enumerate((0, 1, 0)):
-        target = plan(feet, relaxed, tripod)
-        made = steps(feet, target, tripod)
-        feet = made[-1]
-        if half:
-            frames += made
-    out = ['<svg xmlns="http://www.w3.org/2000/svg" viewBox="0 0 760 560" font-family="sans-serif" font-size="12">',
-           '<rect width="760" height="560" fill="white"/>',
-           '<text x="20" y="22" font-size="14">One gait cycle, from above (forward is right; a square is 5 cm)</text>']
-    for k in range(-4, 5):
-        out.append(f'<path d="M{380 + k * 75} 55V335M60 {195 + k * 35}H700" stroke="#eee" fill="none"/>' if abs(k) < 4 else "")
+    frames = cycle()
+    above = Panel(80, 40, 600, 560, (-0.30, 0.30), (-0.28, 0.28))
+    above.axes("One gait cycle from above; the crawler faces right", "x, metres", "y, metres", 0.1, 0.1)
+    seconds = 2 * PERIOD / 1e9
+    heights = Panel(80, 690, 600, 150, (0, seconds), (-0.2, 3.6))
+    heights.axes("Height of each foot over the ground", "time, seconds", "height, centimetres", 0.2, 1)
     for l in range(6):
-        line = [(380 + 1500 * f[l][0], 195 - 700 * f[l][1]) for f in frames]
-        out.append(f'<path d="{path(line)}" stroke="{COLOURS[l]}" stroke-width="2" fill="none"/>')
-        x, y = line[0]
-        out.append(f'<circle cx="{x:.1f}" cy="{y:.1f}" r="4" fill="{COLOURS[l]}"/>')
-        out.append(f'<text x="{x - 30:.1f}" y="{y - 12 if l % 2 == 0 else y + 22:.1f}" fill="{COLOURS[l]}">{NAMES[l]}</text>')
-    out.append('<text x="20" y="372" font-size="14">Height over time (0 to 1.2 s; a line is 1 cm)</text>')
-    for k in range(4):
-        out.append(f'<path d="M60 {520 - 45 * k}H700" stroke="#eee"/><text x="30" y="{524 - 45 * k}" fill="#666">{k} cm</text>')
-    for l in range(6):
-        line = [(60 + 640 * i / (len(frames) - 1), 520 - 4500 * (f[l][2] - GROUND)) for i, f in enumerate(frames)]
-        out.append(f'<path d="{path(line)}" stroke="{COLOURS[l]}" stroke-width="2" fill="none" opacity="0.8"/>')
-    out.append("</svg>")
-    print("\n".join(line for line in out if line))
+        above.line([f[l][:2] for f in frames], COLOURS[l])
+        above.dot(*frames[0][l][:2], COLOURS[l], 4)
+        x, y = above.at(RELAXED[l][0], RELAXED[l][1])
+        above.text(x, y + (40 if l % 2 else -30), NAMES[l], f'text-anchor="middle" fill="{COLOURS[l]}"')
+        # the second three of a tripod lie on the first: dashed, so that all six show
+        dash = "" if l in (0, 1) else f'stroke-dasharray="10 20" stroke-dashoffset="{10 * (l // 2)}"'
+        line = [(seconds * i / (len(frames) - 1), 100 * (f[l][2] - GROUND)) for i, f in enumerate(frames)]
+        heights.line(line, COLOURS[l], f'stroke-width="2" {dash}')
+    more = ["dot: where the cycle starts", "dashed: three feet rise together,", "their curves are one"]
+    picture(930, 890, above.out + heights.out + legend(710, 54, NAMES, more))
 
 
 main()

@@ -43,7 +43,7 @@ ENTRIES = {
     "MovingFeet::next": "moves/next_feet_change_their_target moves/flag_forgets_a_foot moves/targets_are_not_looked_at",
     "longest_distance": "moves/longest_forgets_a_leg moves/distance_without_height",
     "walk": "walks/arrival_by_bits walks/bound_of_half walks/ignores_max_move walks/invented_count walks/repeats_its_first_step",
-    "walk_feet": "walks/counts_so_far_forgotten walks/the_smallest_count",
+    "walk_feet": "walks/a_foot_takes_anothers_step walks/invented_rounds walks/one_foot_unseen",
     "MoveCommand::default": "commands/another_default_height commands/another_default_time",
     "MoveCommand::new": "commands/new_lifts_aggressively commands/step_time_refused_as_2",
     "MoveCommand::with_optional_fields": "commands/the_flag_is_dropped commands/step_time_refused_as_2 commands/sixty_seconds_refused",

@@ -1,8 +1,19 @@
 -- No second answer fits: for every entry, and every core behind one, what comes in settles what goes out, refusals included. Each law is stated over the
 -- function's own contract, as the checker has it (`Post`): what is passed, the answer, and what the caller holds at the end. One general law serves all
 -- (`one-answer`): a contract that is an equation of what is told, where telling loses nothing. Made by tools/one_answer.py.
-use mathlib.Core.Path.{_≡_}
+use mathlib.Core.Path.{_≡_, sym, ap, ap₂, _∙_}
 use Rattle.numbers.proofs.OneAnswer.{one-answer}
+use lib.Ieee.{Float}
+use Rattle.legs.specs.declared.Point.{Point}
+use Rattle.legs.specs.declared.LegAngles.{LegAngles}
+use Rattle.sines.specs.declared.core.Turn.{Turn}
+use Rattle.joints.specs.Inverse.{course}
+use Rattle.joints.specs.Forward.{TurnsOf}
+use Rattle.joints.specs.declared.configuration.Body.{Body}
+use Rattle.joints.specs.declared.configuration.LegConfiguration.{LegConfiguration}
+use Rattle.joints.specs.declared.core.Course.{Course}
+use Rattle.joints.specs.declared.core.Turns.{Turns}
+use Rattle.joints.specs.declared.core.LegSolved.{LegSolved}
 use Rattle.numbers.specs.Answers as numbers
 use Rattle.numbers.proofs.OneAnswer as numbers-one
 use Rattle.legs.specs.Answers as legs
@@ -30,6 +41,7 @@ use Rattle.sines.proofs.sine.Reads as sines-sine
 use Rattle.sines.proofs.cosine.Reads as sines-cosine
 use Rattle.sines.proofs.core.sine.Reads as sines-core-sine
 use Rattle.sines.proofs.core.cosine.Reads as sines-core-cosine
+use Rattle.sines.proofs.core.sine_and_cosine.Reads as sines-core-sine-and-cosine
 use Rattle.arcs.proofs.arc_cosine.Reads as arcs-arc-cosine
 use Rattle.arcs.proofs.atan2.Reads as arcs-atan2
 use Rattle.arcs.proofs.core.arc_cosine.Reads as arcs-core-arc-cosine
@@ -128,10 +140,13 @@ use Rattle.joints.proofs.core.relative.Reads as joints-core-relative
 use Rattle.joints.proofs.core.reach_of.Reads as joints-core-reach-of
 use Rattle.joints.proofs.core.get_alpha_angle.Reads as joints-core-get-alpha-angle
 use Rattle.joints.proofs.core.to_motor.Reads as joints-core-to-motor
+use Rattle.joints.proofs.core.set_out.Reads as joints-core-set-out
 use Rattle.joints.proofs.core.solved_angles.Reads as joints-core-solved-angles
 use Rattle.joints.proofs.core.calculate_ik_for_leg.Reads as joints-core-calculate-ik-for-leg
 use Rattle.joints.proofs.core.calculate_ik.Reads as joints-core-calculate-ik
 use Rattle.joints.proofs.core.from_motor.Reads as joints-core-from-motor
+use Rattle.joints.proofs.core.turns_of.Reads as joints-core-turns-of
+use Rattle.joints.proofs.core.foot_of.Reads as joints-core-foot-of
 use Rattle.joints.proofs.core.calculate_fk_for_leg.Reads as joints-core-calculate-fk-for-leg
 use Rattle.joints.proofs.core.calculate_fk.Reads as joints-core-calculate-fk
 
@@ -142,6 +157,19 @@ Settled {I} {A} C = (i : I) (a b : A) → C i a i → C i b i → a ≡ b
 -- a contract that equates the answer itself
 one-value : {A : Type 0} {said : A} (a b : A) → a ≡ said → b ≡ said → a ≡ b
 one-value {A} = one-answer (λ (a : A). a) (λ a b e. e)
+
+-- records by their fields
+same-turn : (a b : Turn) → a .sine ≡ b .sine → a .cosine ≡ b .cosine → a ≡ b
+same-turn a b s c = ap₂ turn s c
+  where
+    turn : Float → Float → Turn
+    turn x y = record { sine = x; cosine = y }
+
+same-turns : (a b : Turns) → a .base .sine ≡ b .base .sine → a .base .cosine ≡ b .base .cosine → a .femur .sine ≡ b .femur .sine → a .femur .cosine ≡ b .femur .cosine → a .tibia .sine ≡ b .tibia .sine → a .tibia .cosine ≡ b .tibia .cosine → a ≡ b
+same-turns a b s c t d u e = ap (λ (x : Turn). turns x (a .femur) (a .tibia)) (same-turn (a .base) (b .base) s c) ∙ ap₂ (turns (b .base)) (same-turn (a .femur) (b .femur) t d) (same-turn (a .tibia) (b .tibia) u e)
+  where
+    turns : Turn → Turn → Turn → Turns
+    turns x y z = record { base = x; femur = y; tibia = z }
 
 -- ---- numbers
 pub settled-numbers-absolute : Settled (numbers-absolute.Post tt)
@@ -187,6 +215,9 @@ settled-sines-core-sine i a b p q = one-value a b (p .0) (q .0)
 
 pub settled-sines-core-cosine : Settled (sines-core-cosine.Post tt)
 settled-sines-core-cosine i a b p q = one-value a b (p .0) (q .0)
+
+pub settled-sines-core-sine-and-cosine : Settled (sines-core-sine-and-cosine.Post tt)
+settled-sines-core-sine-and-cosine i a b p q = same-turn a b (p .0 ∙ sym (q .0)) (p .1 ∙ sym (q .1))
 
 -- ---- arcs
 pub settled-arcs-arc-cosine : Settled (arcs-arc-cosine.Post tt)
@@ -491,17 +522,26 @@ settled-joints-core-get-alpha-angle i = one-value
 pub settled-joints-core-to-motor : Settled (joints-core-to-motor.Post tt)
 settled-joints-core-to-motor i = one-value
 
-pub settled-joints-core-solved-angles : Settled (joints-core-solved-angles.Post tt)
-settled-joints-core-solved-angles i = one-value
+pub settled-joints-core-set-out : Settled (joints-core-set-out.Post tt)
+settled-joints-core-set-out i = one-value
 
-pub settled-joints-core-calculate-ik-for-leg : Settled (joints-core-calculate-ik-for-leg.Post tt)
-settled-joints-core-calculate-ik-for-leg i = one-value
+pub settled-joints-core-solved-angles : (o : Point) (c : Course) (y : Body) (l : LegConfiguration) (a b : LegAngles) → c ≡ course o y l → joints-core-solved-angles.Post tt (c, (y, (l, tt))) a (c, (y, (l, tt))) → joints-core-solved-angles.Post tt (c, (y, (l, tt))) b (c, (y, (l, tt))) → a ≡ b
+settled-joints-core-solved-angles o c y l a b e p q = p o e ∙ sym (q o e)
+
+pub settled-joints-core-calculate-ik-for-leg : (o : Point) (c : Course) (y : Body) (l : LegConfiguration) (a b : LegSolved) → c ≡ course o y l → joints-core-calculate-ik-for-leg.Post tt (c, (y, (l, tt))) a (c, (y, (l, tt))) → joints-core-calculate-ik-for-leg.Post tt (c, (y, (l, tt))) b (c, (y, (l, tt))) → a ≡ b
+settled-joints-core-calculate-ik-for-leg o c y l a b e p q = p o e ∙ sym (q o e)
 
 pub settled-joints-core-calculate-ik : Settled (joints-core-calculate-ik.Post tt)
 settled-joints-core-calculate-ik i = one-value
 
 pub settled-joints-core-from-motor : Settled (joints-core-from-motor.Post tt)
 settled-joints-core-from-motor i = one-value
+
+pub settled-joints-core-turns-of : Settled (joints-core-turns-of.Post tt)
+settled-joints-core-turns-of i a b p q = same-turns a b (p .base-sine ∙ sym (q .base-sine)) (p .base-cosine ∙ sym (q .base-cosine)) (p .femur-sine ∙ sym (q .femur-sine)) (p .femur-cosine ∙ sym (q .femur-cosine)) (p .tibia-sine ∙ sym (q .tibia-sine)) (p .tibia-cosine ∙ sym (q .tibia-cosine))
+
+pub settled-joints-core-foot-of : (o : LegAngles) (c : Turns) (y : Body) (l : LegConfiguration) (a b : Point) → TurnsOf o y l c → joints-core-foot-of.Post tt (c, (y, (l, tt))) a (c, (y, (l, tt))) → joints-core-foot-of.Post tt (c, (y, (l, tt))) b (c, (y, (l, tt))) → a ≡ b
+settled-joints-core-foot-of o c y l a b e p q = p o e ∙ sym (q o e)
 
 pub settled-joints-core-calculate-fk-for-leg : Settled (joints-core-calculate-fk-for-leg.Post tt)
 settled-joints-core-calculate-fk-for-leg i = one-value

@@ -2,9 +2,11 @@
 // A result of 0 to 99 is a refusal's number or 0 for an answer; a row that is too short gives 99; 256 is added where
 // something moved. Feet are eighteen floats in row order, x y z each.
 use hopper::numbers::Answer;
+use hopper::numbers::Pattern;
 
 mod feet;
 mod joints_probes;
+mod legs_probes;
 mod moves_probes;
 mod steps_probes;
 
@@ -57,4 +59,16 @@ pub extern "C" fn probe_arc_cosine(q: f32, out: &mut f32) -> u32 {
 #[no_mangle]
 pub extern "C" fn probe_atan2(y: f32, x: f32, out: &mut f32) -> u32 {
     stored(hopper::numbers::atan2(y, x), out)
+}
+
+// A float of these bits, and its bits again: 0, or 1 where it is no number.
+#[no_mangle]
+pub extern "C" fn probe_pattern(bits: u32, out: &mut u32) -> u32 {
+    match hopper::numbers::pattern_of(hopper::numbers::from_pattern(bits)) {
+        Pattern::Bits(b) => {
+            *out = b;
+            0
+        }
+        Pattern::NotANumber => 1,
+    }
 }

@@ -3,14 +3,20 @@ use crate::feet;
 use crate::stored;
 use hopper::legs::Feet;
 use hopper::legs::Planned;
+use hopper::legs::Point;
+use hopper::steps::Commanded;
+use hopper::steps::EvenIter;
 use hopper::steps::EvenStepIterator;
 use hopper::steps::Lift;
 use hopper::steps::MoveCommand;
 use hopper::steps::NextEven;
 use hopper::steps::NextStep;
 use hopper::steps::NextTimed;
+use hopper::steps::ShouldMove;
+use hopper::steps::StepIter;
 use hopper::steps::StepIterator;
 use hopper::steps::Time;
+use hopper::steps::TimedIter;
 use hopper::steps::TimedStepIterator;
 use hopper::steps::Tripod;
 ghost use Prim.Native.Nat.{_≤_};
@@ -24,6 +30,101 @@ fn time(seconds: u64, nanoseconds: u32) -> Time {
     Time {
         seconds: seconds,
         nanoseconds: nanoseconds,
+    }
+}
+
+fn tripod_number(t: Tripod) -> u32 {
+    match t {
+        Tripod::LRL => 0,
+        Tripod::RLR => 1,
+    }
+}
+
+#[no_mangle]
+pub extern "C" fn probe_invert(t: u32) -> u32 {
+    tripod_number(tripod(t).invert())
+}
+
+#[no_mangle]
+pub extern "C" fn probe_flag(t: u32) -> u32 {
+    tripod(t).as_flag()
+}
+
+// A command's four floats (direction x and y, rotation, height) and its time out; 256 where it is aggressive.
+fn store_command(c: MoveCommand, out: &mut [f32], seconds: &mut u64, nanoseconds: &mut u32) -> u32 {
+    if out.len() < 4 {
+        return 99;
+    }
+    let turn = Point {
+        x: c.direction_x,
+        y: c.direction_y,
+        z: c.rotation,
+    };
+    feet::store_point(turn, out, 0);
+    out[3] = c.step_height;
+    *seconds = c.step_time.seconds;
+    *nanoseconds = c.step_time.nanoseconds;
+    if c.aggressive_leg_lift { 256 } else { 0 }
+}
+
+#[no_mangle]
+pub extern "C" fn probe_default(out: &mut [f32], seconds: &mut u64, nanoseconds: &mut u32) -> u32 {
+    store_command(MoveCommand::default(), out, seconds, nanoseconds)
+}
+
+#[no_mangle]
+pub extern "C" fn probe_new(
+    x: f32,
+    y: f32,
+    rotation: f32,
+    out: &mut [f32],
+    seconds: &mut u64,
+    nanoseconds: &mut u32,
+) -> u32 {
+    match MoveCommand::new(x, y, rotation) {
+        Commanded::Command(c) => store_command(c, out, seconds, nanoseconds),
+        Commanded::Refused(n) => n,
+    }
+}
+
+// Direction x and y, rotation, height: four floats in.
+#[no_mangle]
+pub extern "C" fn probe_command(
+    s: &[f32],
+    aggressive: u32,
+    ps: u64,
+    pn: u32,
+    out: &mut [f32],
+    seconds: &mut u64,
+    nanoseconds: &mut u32,
+) -> u32 {
+    if s.len() < 4 {
+        return 99;
+    }
+    match MoveCommand::with_optional_fields(s[0], s[1], s[2], time(ps, pn), s[3], aggressive != 0) {
+        Commanded::Command(c) => store_command(c, out, seconds, nanoseconds),
+        Commanded::Refused(n) => n,
+    }
+}
+
+// The same four floats: 256 where the command asks for a move.
+#[no_mangle]
+pub extern "C" fn probe_should_move(s: &[f32], aggressive: u32, ps: u64, pn: u32) -> u32 {
+    if s.len() < 4 {
+        return 99;
+    }
+    let command = MoveCommand {
+        direction_x: s[0],
+        direction_y: s[1],
+        rotation: s[2],
+        step_time: time(ps, pn),
+        step_height: s[3],
+        aggressive_leg_lift: aggressive != 0,
+    };
+    match command.should_move() {
+        ShouldMove::Yes => 256,
+        ShouldMove::No => 0,
+        ShouldMove::Refused(n) => n,
     }
 }
 
@@ -135,6 +236,164 @@ pub extern "C" fn probe_even_step(
         NextEven::Step(f, _) => stepped(f, out),
         NextEven::NoStep => 0,
         NextEven::Refused(n) => n,
+    }
+}
+
+// 256 for the second tripod and 512 where the lift is aggressive.
+fn marks(t: Tripod, aggressive: bool) -> u32 {
+    let first = tripod_number(t) == 0;
+    if aggressive {
+        if first { 512 } else { 768 }
+    } else {
+        if first { 0 } else { 256 }
+    }
+}
+
+fn store_course(
+    f: Feet,
+    g: Feet,
+    h: Feet,
+    start: &mut [f32],
+    last: &mut [f32],
+    target: &mut [f32],
+) -> bool {
+    feet::store_feet(f, start) & feet::store_feet(g, last) & feet::store_feet(h, target)
+}
+
+// A step by distance sets out: start, target, max move, height, 38 floats in; the state out.
+#[no_mangle]
+pub extern "C" fn probe_step_iter(
+    s: &[f32],
+    t: u32,
+    aggressive: u32,
+    start: &mut [f32],
+    last: &mut [f32],
+    target: &mut [f32],
+    max_move: &mut f32,
+    height: &mut f32,
+) -> u32 {
+    if s.len() < 38 {
+        return 99;
+    }
+    match StepIterator::step(
+        feet::feet(s, 0),
+        feet::feet(s, 18),
+        s[36],
+        s[37],
+        tripod(t),
+        aggressive != 0,
+    ) {
+        StepIter::State(i) => {
+            *max_move = i.max_move;
+            *height = i.step_height;
+            let t = i.tripod;
+            if store_course(i.start, i.last, i.target, start, last, target) {
+                marks(t, i.aggressive_leg_lift)
+            } else {
+                99
+            }
+        }
+        StepIter::Refused(n) => n,
+    }
+}
+
+fn lift_after(s: &[f32], t: u32, aggressive: u32) -> Lift
+    requires { ⌜ 38 ≤ length (now s) ⌝ }
+{
+    Lift {
+        step_height: s[36],
+        grounded_leg_descent: s[37],
+        tripod: tripod(t),
+        aggressive_leg_lift: aggressive != 0,
+    }
+}
+
+// Height and descent, and the period.
+fn store_lift(
+    l: Lift,
+    p: Time,
+    height: &mut f32,
+    descent: &mut f32,
+    ps: &mut u64,
+    pn: &mut u32,
+) -> u32 {
+    *height = l.step_height;
+    *descent = l.grounded_leg_descent;
+    *ps = p.seconds;
+    *pn = p.nanoseconds;
+    let t = l.tripod;
+    marks(t, l.aggressive_leg_lift)
+}
+
+// A step by time sets out: start, target, height, descent, 38 floats in; the state out.
+#[no_mangle]
+pub extern "C" fn probe_timed_iter(
+    s: &[f32],
+    t: u32,
+    aggressive: u32,
+    seconds: u64,
+    nanoseconds: u32,
+    start: &mut [f32],
+    last: &mut [f32],
+    target: &mut [f32],
+    height: &mut f32,
+    descent: &mut f32,
+    ps: &mut u64,
+    pn: &mut u32,
+) -> u32 {
+    if s.len() < 38 {
+        return 99;
+    }
+    match TimedStepIterator::step(
+        feet::feet(s, 0),
+        feet::feet(s, 18),
+        time(seconds, nanoseconds),
+        lift_after(s, t, aggressive),
+    ) {
+        TimedIter::State(i) => {
+            if store_course(i.start, i.last, i.target, start, last, target) {
+                store_lift(i.lift, i.period, height, descent, ps, pn)
+            } else {
+                99
+            }
+        }
+        TimedIter::Refused(n) => n,
+    }
+}
+
+// The same at even pace.
+#[no_mangle]
+pub extern "C" fn probe_even_iter(
+    s: &[f32],
+    t: u32,
+    aggressive: u32,
+    seconds: u64,
+    nanoseconds: u32,
+    start: &mut [f32],
+    last: &mut [f32],
+    target: &mut [f32],
+    height: &mut f32,
+    descent: &mut f32,
+    ps: &mut u64,
+    pn: &mut u32,
+) -> u32 {
+    if s.len() < 38 {
+        return 99;
+    }
+    match EvenStepIterator::step(
+        feet::feet(s, 0),
+        feet::feet(s, 18),
+        time(seconds, nanoseconds),
+        lift_after(s, t, aggressive),
+    ) {
+        EvenIter::State(i) => {
+            if store_course(i.start, i.last, i.target, start, last, target) {
+                store_lift(i.lift, i.period, height, descent, ps, pn)
+            } else {
+                99
+            }
+        }
+        EvenIter::Refused(n) => n,
     }
 }
 

@@ -6,7 +6,7 @@ use Rattle.planner.proofs.turns.turn.Tie as tie
 
 returns : tie.Need-returns
 unfolding turn
-returns c = simp (nought-bits, one-bits, c .sine .ensures .0, c .before .cosine .ensures .0)
+returns c = simp (nought-bits, one-bits, c .sine-and-cosine .ensures .0, c .sine-and-cosine .ensures .1)
 
 pub turn-spec : {M : Type 1} → statement M
-turn-spec = tie.close (tie.spec (λ _ _. tt) (λ _ _. tt) returns)
+turn-spec = tie.close (tie.spec (λ _ _. tt) returns)
