@@ -74,7 +74,7 @@ greater-distance {x} {y} a b = by-test (lt x y)
     by-test false = a
 
 -- what the root is handed, leg by leg
-module _ (a b : Feet) (A : HeldFeet a) (B : HeldFeet b) (h : T (permittedFeet rows.foot a)) (k : T (permittedFeet footLimit b)) where
+module _ (a b : Feet) (A : HeldFeet a) (B : HeldFeet b) (h : T (permittedFeet rows.foot a)) (k : T (permittedFeet rows.foot b)) where
   pub root-within : (l : Leg) → T (permits rows.rootArgument (horizontalSum (foot a l) (foot b l)))
   root-within l =
       horizontal-sum-permitted (foot a l) (foot b l)
