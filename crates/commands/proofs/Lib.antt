@@ -1,3 +1,4 @@
 mod Halves
 pub mod Laws
 pub mod OneAnswer
+pub mod Constants

@@ -7,6 +7,7 @@ use Rattle.numbers.specs.Told.{Told, given, answer}
 use Rattle.numbers.specs.Door.{finite, permits, unless, firstOf}
 use Rattle.numbers.specs.Limits.{over, direction, rotation as rotationLimit}
 use Rattle.numbers.specs.Finite.{magnitude}
+use Rattle.commands.specs.Constants.{nought}
 use Rattle.commands.specs.Times.{periodPermitted}
 use Rattle.commands.specs.Answers.{mark, givenCommand}
 use Rattle.commands.specs.declared.Time.{Time}
@@ -32,7 +33,7 @@ command x y turn time height aggressive =
     }
 
 unfoldable pub defaultCommand : MoveCommand
-defaultCommand = command (over 0 1) (over 0 1) (over 0 1) defaultStepTime defaultStepHeight false
+defaultCommand = command nought nought nought defaultStepTime defaultStepHeight false
 
 -- all four floats pass
 unfoldable pub finiteCommand : MoveCommand → Bool

@@ -1,3 +1,4 @@
+pub mod Constants
 pub mod Times
 pub mod Tripods
 pub mod Answers

@@ -1,4 +1,5 @@
 -- The definitions that the contracts on commands, steps and the planner cite, room by room.
+pub use Rattle.house.specs.CommandsConstants
 pub use Rattle.house.specs.CommandsTimes
 pub use Rattle.house.specs.CommandsTripods
 pub use Rattle.house.specs.CommandsAnswers

@@ -30,6 +30,7 @@ pub use Rattle.moves.specs.Iterators as MovesIterators
 pub use Rattle.walks.specs.Walk as WalksWalk
 pub use Rattle.walks.specs.Reach as WalksReach
 pub use Rattle.walks.specs.Answers as WalksAnswers
+pub use Rattle.commands.specs.Constants as CommandsConstants
 pub use Rattle.commands.specs.Times as CommandsTimes
 pub use Rattle.commands.specs.Tripods as CommandsTripods
 pub use Rattle.commands.specs.Answers as CommandsAnswers

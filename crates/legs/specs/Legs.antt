@@ -91,6 +91,13 @@ finitePoint p = finite (p .x) && finite (p .y) && finite (p .z)
 unfoldable pub permittedPoint : Limit → Point → Bool
 permittedPoint l p = permits l (p .x) && permits l (p .y) && permits l (p .z)
 
+-- all six feet pass
+abbrev pub finiteFeet : Feet → Bool
+finiteFeet f = every (λ l. finitePoint (foot f l))
+
+abbrev pub permittedFeet : Limit → Feet → Bool
+permittedFeet limit f = every (λ l. permittedPoint limit (foot f l))
+
 -- the floats of a point, of an angle triple, and of a list of them
 abbrev pub coordinates : Point → List Float
 coordinates p = p .x ∷ p .y ∷ p .z ∷ []

@@ -6,7 +6,7 @@ use lib.Dec.{ltb}
 use Rattle.numbers.specs.Told.{Told, choose, answer}
 use Rattle.numbers.specs.Door.{unless, when, firstOf}
 use Rattle.numbers.specs.Limits.{maskTo, foot as footLimit}
-use Rattle.legs.specs.Legs.{Leg, foot, feet, every, finitePoint, permittedPoint}
+use Rattle.legs.specs.Legs.{foot, feet, finiteFeet, permittedFeet}
 use Rattle.legs.specs.Masks.{has}
 use Rattle.legs.specs.Answers.{givenFeet}
 use Rattle.legs.specs.declared.Feet.{Feet}
@@ -18,8 +18,8 @@ merged a b m = feet (λ l. choose (has m l) (foot b l) (foot a l))
 unfoldable pub mergeRefusal : Feet → Feet → ℕ → ℕ
 mergeRefusal a b m =
     firstOf
-    (unless (every (λ l. finitePoint (foot a l)) && every (λ l. finitePoint (foot b l))) 1
-    ∷ unless (every (λ l. permittedPoint footLimit (foot a l)) && every (λ l. permittedPoint footLimit (foot b l))) 2
+    (unless (finiteFeet a && finiteFeet b) 1
+    ∷ unless (permittedFeet footLimit a && permittedFeet footLimit b) 2
     ∷ when (ltb maskTo m) 4
     ∷ [])
 

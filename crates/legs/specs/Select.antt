@@ -7,7 +7,7 @@ use lib.ListN.{length, set, replicate}
 use Rattle.numbers.specs.Told.{Told, choose}
 use Rattle.numbers.specs.Door.{unless, when, firstOf}
 use Rattle.numbers.specs.Limits.{maskTo, foot as footLimit}
-use Rattle.legs.specs.Legs.{Leg, leftFront, rightFront, leftMiddle, rightMiddle, leftRear, rightRear, row, foot, every, origin, finitePoint, permittedPoint}
+use Rattle.legs.specs.Legs.{Leg, row, foot, origin, finiteFeet, permittedFeet}
 use Rattle.legs.specs.Masks.{has}
 use Rattle.legs.specs.Answers.{toldSelected}
 use Rattle.legs.specs.declared.Point.{Point}
@@ -39,8 +39,8 @@ noneSelected n = record { refused = n; len = 0; row = replicate 6 origin }
 unfoldable pub selectRefusal : Feet → ℕ → ℕ
 selectRefusal f m =
     firstOf
-    (unless (every (λ l. finitePoint (foot f l))) 1
-    ∷ unless (every (λ l. permittedPoint footLimit (foot f l))) 2
+    (unless (finiteFeet f) 1
+    ∷ unless (permittedFeet footLimit f) 2
     ∷ when (ltb maskTo m) 4
     ∷ [])
 

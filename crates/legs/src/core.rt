@@ -10,7 +10,7 @@ ghost use lib.Dec.{ltb};
 ghost use Rattle.numbers.specs.Told.{choose};
 ghost use Rattle.numbers.specs.Door.{permits, when};
 ghost use Rattle.numbers.specs.Limits.{maskTo};
-ghost use Rattle.legs.specs.Legs.{every, foot, finitePoint, permittedPoint};
+ghost use Rattle.legs.specs.Legs.{finitePoint, permittedPoint, finiteFeet, permittedFeet};
 ghost use Rattle.legs.specs.Merge.{merged};
 ghost use Rattle.legs.specs.Select.{push, noneSelected, selected};
 ghost use Rattle.legs.specs.Update.{updated};
@@ -37,7 +37,7 @@ pub fn point_permitted(limit: Limit, p: Point) -> bool
 }
 
 pub fn feet_finite(f: Feet) -> bool
-    ensures { λ r. ⌜ r ≡ every (λ l. finitePoint (foot f l)) ⌝ }
+    ensures { λ r. ⌜ r ≡ finiteFeet f ⌝ }
 {
     point_finite(f.left_front)
         & point_finite(f.right_front)
@@ -48,7 +48,7 @@ pub fn feet_finite(f: Feet) -> bool
 }
 
 pub fn feet_permitted(limit: Limit, f: Feet) -> bool
-    ensures { λ r. ⌜ r ≡ every (λ l. permittedPoint limit (foot f l)) ⌝ }
+    ensures { λ r. ⌜ r ≡ permittedFeet limit f ⌝ }
 {
     point_permitted(limit, f.left_front)
         & point_permitted(limit, f.right_front)

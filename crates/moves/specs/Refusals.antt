@@ -1,20 +1,13 @@
 -- Document 01, "Numbered refusals", of a step and of a longest distance. 1: a float is NaN or infinite; 2: one is outside the table.
 use Prim.Native.Nat.{ℕ}
-use mathlib.Core.Bool.{Bool, _&&_}
+use mathlib.Core.Bool.{_&&_}
 use mathlib.Core.List.{[], _∷_}
 use lib.Ieee.{Float}
 use Rattle.numbers.specs.Door.{finite, permits, unless, firstOf}
 use Rattle.numbers.specs.Limits.{foot as footLimit, maxMove}
-use Rattle.legs.specs.Legs.{foot, every, finitePoint, permittedPoint}
+use Rattle.legs.specs.Legs.{finitePoint, permittedPoint, finiteFeet, permittedFeet}
 use Rattle.legs.specs.declared.Point.{Point}
 use Rattle.legs.specs.declared.Feet.{Feet}
-
--- all six pass
-abbrev pub finiteFeet : Feet → Bool
-finiteFeet f = every (λ l. finitePoint (foot f l))
-
-abbrev pub permittedFeet : Feet → Bool
-permittedFeet f = every (λ l. permittedPoint footLimit (foot f l))
 
 unfoldable pub moveRefusal : Point → Point → Float → ℕ
 moveRefusal l t m =
@@ -27,12 +20,12 @@ unfoldable pub moveFeetRefusal : Feet → Feet → Float → ℕ
 moveFeetRefusal l t m =
     firstOf
     (unless (finiteFeet l && finiteFeet t && finite m) 1
-    ∷ unless (permittedFeet l && permittedFeet t && permits maxMove m) 2
+    ∷ unless (permittedFeet footLimit l && permittedFeet footLimit t && permits maxMove m) 2
     ∷ [])
 
 unfoldable pub longestRefusal : Feet → Feet → ℕ
 longestRefusal a b =
     firstOf
     (unless (finiteFeet a && finiteFeet b) 1
-    ∷ unless (permittedFeet a && permittedFeet b) 2
+    ∷ unless (permittedFeet footLimit a && permittedFeet footLimit b) 2
     ∷ [])

@@ -1,17 +1,8 @@
--- The constants of the code, by their bits: 0, 1, 2 and 3.
+-- The constants of the code, by their bits: 2 and 3.
 use mathlib.Core.Path.{_≡_, refl}
 use lib.Ieee.{binary32, ofBits}
 use Rattle.numbers.specs.Limits.{over}
-use Rattle.planner.specs.Turns.{nought, one}
 use Rattle.planner.specs.Plan.{two, three}
-
-pub nought-bits : ofBits binary32 0 ≡ nought
-unfolding ofBits over nought
-nought-bits = refl
-
-pub one-bits : ofBits binary32 0x3f80_0000 ≡ one
-unfolding ofBits over one
-one-bits = refl
 
 pub two-bits : ofBits binary32 0x4000_0000 ≡ two
 unfolding ofBits over two

@@ -1,5 +1,6 @@
 -- No number passes a limit inside: where the door lets feet and a command through, every argument that the planner hands to sine, cosine and atan2 is within
 -- document 01's row for it. A coordinate is at most 4, a centred one 8, a product 32, a turn 4, and half a rotation 2.
+use Rattle.commands.specs.Constants.{nought}
 use mathlib.Core.Path.{_≡_, refl}
 use mathlib.Core.Bool.{Bool, true, false, _&&_, _||_}
 use mathlib.Core.List.{[], _∷_}
@@ -14,7 +15,7 @@ use Rattle.numbers.specs.Door.{permits, unless, firstOf}
 use Rattle.numbers.specs.Limits.{over}
 use Rattle.numbers.specs.Limits as rows
 use Rattle.units.specs.Units.{unity, hi, lo}
-use Rattle.legs.specs.Legs.{Leg, leftFront, rightFront, leftMiddle, rightMiddle, leftRear, rightRear, foot, permittedPoint}
+use Rattle.legs.specs.Legs.{Leg, leftFront, rightFront, leftMiddle, rightMiddle, leftRear, rightRear, foot, permittedPoint, finiteFeet, permittedFeet}
 use Rattle.legs.specs.declared.Point.{Point}
 use Rattle.legs.specs.declared.Feet.{Feet}
 use Rattle.bounds.specs.Between.{Between, HeldFeet, PointBounds}
@@ -27,9 +28,9 @@ use Rattle.commands.specs.Command.{finiteCommand, permittedCommand}
 use Rattle.commands.specs.declared.Tripod.{Tripod}
 use Rattle.commands.specs.declared.Tripod.the-variants.{LRL, RLR}
 use Rattle.commands.specs.declared.MoveCommand.{MoveCommand}
-use Rattle.planner.specs.Turns.{nought, isZero, across, along, turnBetween}
+use Rattle.planner.specs.Turns.{isZero, across, along, turnBetween}
 use Rattle.planner.specs.Plan.{two, three, third, summed, inRow, centre, between, averageTurn, ahead, back}
-use Rattle.planner.specs.Entry.{finiteFeet, permittedFeet, planRefusal}
+use Rattle.planner.specs.Entry.{planRefusal}
 use Rattle.planner.specs.declared.core.Trio.{Trio}
 
 -- what atan2 is handed for a turn, unless a vector is zero
@@ -94,7 +95,7 @@ none-refused true true Q e = tt
 none-refused true false Q e = absurd (omega arith)
 none-refused false P Q e = absurd (omega arith)
 
-feet-bounds : (f : Feet) → HeldFeet f → T (permittedFeet f) → (l : Leg) → PointBounds 4 (foot f l)
+feet-bounds : (f : Feet) → HeldFeet f → T (permittedFeet rows.foot f) → (l : Leg) → PointBounds 4 (foot f l)
 feet-bounds f H h l = point-bounds (foot f l) (H l) (each (λ k. permittedPoint rows.foot (foot f k)) h l)
 
 summed-bounds : (f : Feet) → ((l : Leg) → PointBounds 4 (foot f l)) → (lifted : Tripod) → TrioBounds (summed lifted f)
@@ -137,11 +138,11 @@ average-between s m r =
 pub plan-within : (start relaxed : Feet) (lifted : Tripod) (c : MoveCommand) → HeldFeet start → HeldFeet relaxed → T (fits binary32 (c .rotation)) → planRefusal start relaxed c ≡ 0 → PlanArguments start relaxed lifted c
 unfolding planRefusal
 plan-within start relaxed lifted c S R C e =
-    let h = none-refused (finiteFeet start && finiteFeet relaxed && finiteCommand c) (permittedFeet start && permittedFeet relaxed && permittedCommand c) (periodPermitted (c .«step_time»)) e in
-    let feet = and-l (permittedFeet start && permittedFeet relaxed) (permittedCommand c) h in
-    let s = feet-bounds start S (and-l (permittedFeet start) (permittedFeet relaxed) feet) in
-    let r = feet-bounds relaxed R (and-r (permittedFeet start) (permittedFeet relaxed) feet) in
-    let turn = at-rotation (c .rotation) C (rotation-permitted c (and-r (permittedFeet start && permittedFeet relaxed) (permittedCommand c) h)) in
+    let h = none-refused (finiteFeet start && finiteFeet relaxed && finiteCommand c) (permittedFeet rows.foot start && permittedFeet rows.foot relaxed && permittedCommand c) (periodPermitted (c .«step_time»)) e in
+    let feet = and-l (permittedFeet rows.foot start && permittedFeet rows.foot relaxed) (permittedCommand c) h in
+    let s = feet-bounds start S (and-l (permittedFeet rows.foot start) (permittedFeet rows.foot relaxed) feet) in
+    let r = feet-bounds relaxed R (and-r (permittedFeet rows.foot start) (permittedFeet rows.foot relaxed) feet) in
+    let turn = at-rotation (c .rotation) C (rotation-permitted c (and-r (permittedFeet rows.foot start && permittedFeet rows.foot relaxed) (permittedCommand c) h)) in
     let m = centre (summed lifted start) in
     let M = centre-level (summed lifted start) (summed-bounds start s lifted) in
     let i = row-bounds start s lifted in

@@ -1,11 +1,11 @@
 -- What the planner's entry tells. 1: a float is NaN or infinite; 2: one is outside the table; 3: the command's step time is.
 use Prim.Native.Nat.{ℕ}
-use mathlib.Core.Bool.{Bool, _&&_}
+use mathlib.Core.Bool.{_&&_}
 use mathlib.Core.List.{[], _∷_}
 use Rattle.numbers.specs.Told.{Told, answer}
 use Rattle.numbers.specs.Door.{unless, firstOf}
 use Rattle.numbers.specs.Limits.{foot as footLimit}
-use Rattle.legs.specs.Legs.{foot, every, finitePoint, permittedPoint}
+use Rattle.legs.specs.Legs.{finiteFeet, permittedFeet}
 use Rattle.legs.specs.Answers.{givenFeet}
 use Rattle.legs.specs.declared.Feet.{Feet}
 use Rattle.commands.specs.Times.{periodPermitted}
@@ -14,17 +14,11 @@ use Rattle.commands.specs.declared.Tripod.{Tripod}
 use Rattle.commands.specs.declared.MoveCommand.{MoveCommand}
 use Rattle.planner.specs.Plan.{planned}
 
-abbrev pub finiteFeet : Feet → Bool
-finiteFeet f = every (λ l. finitePoint (foot f l))
-
-abbrev pub permittedFeet : Feet → Bool
-permittedFeet f = every (λ l. permittedPoint footLimit (foot f l))
-
 unfoldable pub planRefusal : Feet → Feet → MoveCommand → ℕ
 planRefusal start relaxed c =
     firstOf
     (unless (finiteFeet start && finiteFeet relaxed && finiteCommand c) 1
-    ∷ unless (permittedFeet start && permittedFeet relaxed && permittedCommand c) 2
+    ∷ unless (permittedFeet footLimit start && permittedFeet footLimit relaxed && permittedCommand c) 2
     ∷ unless (periodPermitted (c .«step_time»)) 3
     ∷ [])
 

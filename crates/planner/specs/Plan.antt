@@ -1,5 +1,6 @@
 -- Document 01, "Steps": "The planner follows 000." "Start vectors are taken from the start's centre, relaxed ones are not: keep that."
 -- One definition over the lifted tripod. The two orders of summation are the source's, and both show in the bits.
+use Rattle.commands.specs.Constants.{nought}
 use mathlib.Core.Bool.{Bool}
 use lib.Ieee.{Float, binary32, add, sub, div, neg}
 use Rattle.numbers.specs.Told.{choose}
@@ -11,7 +12,7 @@ use Rattle.commands.specs.Tripods.{has}
 use Rattle.commands.specs.declared.Tripod.{Tripod}
 use Rattle.commands.specs.declared.Tripod.the-variants.{LRL, RLR}
 use Rattle.commands.specs.declared.MoveCommand.{MoveCommand}
-use Rattle.planner.specs.Turns.{nought, turn, applied, turnBetween}
+use Rattle.planner.specs.Turns.{turn, applied, turnBetween}
 use Rattle.planner.specs.declared.core.Trio.{Trio}
 
 abbrev pub trioOf : Point → Point → Point → Trio

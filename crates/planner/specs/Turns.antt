@@ -1,6 +1,7 @@
 -- Document 01, "Steps": "A turn is a rotation matrix of three rows of three numbers about z: (c, 0 - s, 0), (s, c, 0), (0, 0, 1), our cosine and sine;
 -- products sum left to right. The angle of `rotation_between` is here atan2(x1 y2 - y1 x2, x1 x2 + y1 y2) of the two vectors as they stand, start
 -- first, 0 if either is zero."
+use Rattle.commands.specs.Constants.{nought, one}
 use mathlib.Core.Bool.{Bool, _&&_, _||_}
 use mathlib.Core.List.{List, [], _∷_}
 use lib.ListN.{getD}
@@ -10,12 +11,6 @@ use Rattle.numbers.specs.Limits.{over}
 use Rattle.legs.specs.declared.Point.{Point}
 use Rattle.sines.specs.How.{sine, cosine}
 use Rattle.arcs.specs.How.{atan2}
-
-unfoldable pub nought : Float
-nought = over 0 1
-
-unfoldable pub one : Float
-one = over 1 1
 
 unfoldable pub turn : Float → List (List Float)
 turn angle =

@@ -1,5 +1,5 @@
--- No second answer fits the promise of an update, refused or not; the lent row is settled too, since it holds what it held.
-use mathlib.Core.Path.{_≡_}
+-- No second answer fits the promise of an update, refused or not, and no second row: the lent one holds at the end what it held.
+use mathlib.Core.Path.{_≡_, sym, _∙_}
 use mathlib.Core.List.{List}
 use Prim.Native.Nat.{ℕ}
 use Rattle.numbers.proofs.OneAnswer.{one-answer}
@@ -10,5 +10,9 @@ use Rattle.legs.specs.declared.Feet.{Feet}
 use Rattle.legs.specs.declared.Planned.{Planned}
 use Rattle.rows.specs.Rows.{updateTold}
 
-pub one-update : (f : Feet) (ps : List Point) (m : ℕ) (a b : Planned) → told a ≡ updateTold f ps m → told b ≡ updateTold f ps m → a ≡ b
-one-update f ps m = one-answer told told-loses-nothing
+-- the contract of `updated_from_selected_legs`, over what is lent, the answer, and what the row holds at the end
+abbrev pub Updated : Feet → List Point → ℕ → Planned → List Point → Type 0
+Updated f lent m r left = (told r ≡ updateTold f lent m) × (left ≡ lent)
+
+pub one-update : (f : Feet) (lent : List Point) (m : ℕ) (a b : Planned) (left right : List Point) → Updated f lent m a left → Updated f lent m b right → (a ≡ b) × (left ≡ right)
+one-update f lent m a b left right p q = (one-answer told told-loses-nothing a b (p .0) (q .0), p .1 ∙ sym (q .1))

@@ -8,7 +8,7 @@ use lib.ListN.{set, take}
 use Rattle.numbers.specs.Told.{Told, choose, answer}
 use Rattle.numbers.specs.Door.{unless, when, firstOf}
 use Rattle.numbers.specs.Limits.{maskTo, foot as footLimit}
-use Rattle.legs.specs.Legs.{foot, every, finitePoint, permittedPoint}
+use Rattle.legs.specs.Legs.{finitePoint, permittedPoint, finiteFeet, permittedFeet}
 use Rattle.legs.specs.Answers.{givenFeet}
 use Rattle.legs.specs.Select.{inSix}
 use Rattle.legs.specs.Update.{updated}
@@ -42,8 +42,8 @@ noted s i p =
 unfoldable pub seenRefusal : Feet → Seen → ℕ → ℕ → ℕ
 seenRefusal f s n m =
     firstOf
-    (unless (every (λ l. finitePoint (foot f l)) && s .finite) 1
-    ∷ unless (every (λ l. permittedPoint footLimit (foot f l)) && s .permitted) 2
+    (unless (finiteFeet f && s .finite) 1
+    ∷ unless (permittedFeet footLimit f && s .permitted) 2
     ∷ when (ltb maskTo m) 4
     ∷ unless (eqb n (ones m)) 5
     ∷ [])

@@ -8,7 +8,7 @@ use lib.ListN.{length}
 use Rattle.numbers.specs.Told.{Told, answer}
 use Rattle.numbers.specs.Door.{unless, when, firstOf}
 use Rattle.numbers.specs.Limits.{maskTo, foot as footLimit}
-use Rattle.legs.specs.Legs.{foot, every, finitePoint, permittedPoint}
+use Rattle.legs.specs.Legs.{finitePoint, permittedPoint, finiteFeet, permittedFeet}
 use Rattle.legs.specs.Answers.{givenFeet}
 use Rattle.legs.specs.Update.{updated}
 use Rattle.legs.specs.declared.Point.{Point}
@@ -23,8 +23,8 @@ everyPoint t (p ∷ ps) = t p && everyPoint t ps
 unfoldable pub updateRefusal : Feet → List Point → ℕ → ℕ
 updateRefusal f ps m =
     firstOf
-    (unless (every (λ l. finitePoint (foot f l)) && everyPoint finitePoint ps) 1
-    ∷ unless (every (λ l. permittedPoint footLimit (foot f l)) && everyPoint (permittedPoint footLimit) ps) 2
+    (unless (finiteFeet f && everyPoint finitePoint ps) 1
+    ∷ unless (permittedFeet footLimit f && everyPoint (permittedPoint footLimit) ps) 2
     ∷ when (ltb maskTo m) 4
     ∷ unless (eqb (length ps) (ones m)) 5
     ∷ [])

@@ -1,17 +1,8 @@
--- The constants of the code, by their bits: 0, 1, 1/2 and P.
+-- The constants of the code, by their bits: 1/2 and P.
 use mathlib.Core.Path.{_≡_, refl}
 use lib.Ieee.{binary32, ofBits}
 use Rattle.numbers.specs.Limits.{over}
-use Rattle.steps.specs.Leg.{one, half, halfTurn}
-use Rattle.steps.specs.Next.{nothing}
-
-pub nothing-bits : ofBits binary32 0 ≡ nothing
-unfolding ofBits over nothing
-nothing-bits = refl
-
-pub one-bits : ofBits binary32 0x3f80_0000 ≡ one
-unfolding ofBits over one
-one-bits = refl
+use Rattle.steps.specs.Leg.{half, halfTurn}
 
 pub half-bits : ofBits binary32 0x3f00_0000 ≡ half
 unfolding ofBits over half

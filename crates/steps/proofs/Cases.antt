@@ -1,4 +1,5 @@
 -- Document 01's cases p10 and p11, computed.
+use Rattle.commands.specs.Constants.{one}
 use mathlib.Core.Path.{_≡_, refl}
 use mathlib.Core.List.{[], _∷_}
 use Prim.Native.Nat.{ℕ, _^_}
@@ -7,7 +8,7 @@ use Rattle.numbers.specs.Told.{refused, given}
 use Rattle.numbers.specs.Limits.{over}
 use Rattle.commands.specs.Times.{elapsedPermitted, periodPermitted, wholeNumber, inSeconds}
 use Rattle.commands.specs.declared.Time.{Time}
-use Rattle.steps.specs.Leg.{one, half}
+use Rattle.steps.specs.Leg.{half}
 use Rattle.steps.specs.Progress.{timedProgress, evenProgress}
 use Rattle.steps.specs.Refusals.{progressRefusal}
 use Rattle.steps.specs.Entries.{timedProgressTold, evenProgressTold}

@@ -1,4 +1,5 @@
 -- A step by distance hands the root and the sine nothing outside their tables: the root by `moves`, and the progress is never more than 1.
+use Rattle.commands.specs.Constants.{nought}
 use mathlib.Core.Path.{_≡_, refl, sym, _∙_, subst}
 use mathlib.Core.Bool.{Bool, true, false, not, _&&_, true≢false}
 use mathlib.Core.List.{[], _∷_}
@@ -23,19 +24,18 @@ use Rattle.units.proofs.Door.{permitted}
 use Rattle.units.proofs.Table.{root-argument-ends}
 use Rattle.roots.specs.Root.{squareRoot}
 use Rattle.roots.proofs.Laws.{rooted, root-fits, root-high}
-use Rattle.legs.specs.Legs.{Leg, leftFront, rightFront, leftMiddle, rightMiddle, leftRear, rightRear, foot, permittedPoint}
+use Rattle.legs.specs.Legs.{Leg, leftFront, rightFront, leftMiddle, rightMiddle, leftRear, rightRear, foot, permittedPoint, permittedFeet}
 use Rattle.legs.specs.declared.Feet.{Feet}
 use Rattle.bounds.specs.Between.{Between, HeldFeet}
 use Rattle.bounds.proofs.Between.{made, result-between, sum-between, product-between}
 use Rattle.bounds.proofs.Rows.{at-max-move, sine-row, each}
 use Rattle.moves.specs.Distance.{horizontalSum, horizontalDistance, maxHorizontalDistance}
-use Rattle.moves.specs.Refusals.{permittedFeet}
 use Rattle.moves.proofs.Largest.{Rootable, upward, horizontal-sum-rootable}
 use Rattle.moves.proofs.Squares.{horizontal-sum-permitted}
 use Rattle.steps.specs.Leg.{halfTurn}
 use Rattle.steps.specs.Progress.{stepProgress}
 use Rattle.steps.specs.Refusals.{finiteCourse, permittedCourse, stepRefusal}
-use Rattle.steps.specs.Next.{nothing, stepEnded}
+use Rattle.steps.specs.Next.{stepEnded}
 use Rattle.steps.specs.declared.StepIterator.{StepIterator}
 use Rattle.steps.proofs.Times.{Above}
 use Rattle.steps.proofs.Within.{half-turn-between}
@@ -74,7 +74,7 @@ greater-distance {x} {y} a b = by-test (lt x y)
     by-test false = a
 
 -- what the root is handed, leg by leg
-module _ (a b : Feet) (A : HeldFeet a) (B : HeldFeet b) (h : T (permittedFeet a)) (k : T (permittedFeet b)) where
+module _ (a b : Feet) (A : HeldFeet a) (B : HeldFeet b) (h : T (permittedFeet rows.foot a)) (k : T (permittedFeet rows.foot b)) where
   pub root-within : (l : Leg) → T (permits rows.rootArgument (horizontalSum (foot a l) (foot b l)))
   root-within l =
       horizontal-sum-permitted (foot a l) (foot b l)
@@ -92,15 +92,15 @@ module _ (a b : Feet) (A : HeldFeet a) (B : HeldFeet b) (h : T (permittedFeet a)
 distance-between : {x : Float} → Distance x → Between 0 256 x
 distance-between {x} d = made 0 256 x (d .q) 0 (d .held) (plus-part binary32 x (d .q) (d .value)) zero-le (d .few)
 
-nothing-part : Part binary32 nothing 0 0
-unfolding nothing over
-nothing-part = (refl, refl)
+nought-part : Part binary32 nought 0 0
+unfolding nought over
+nought-part = (refl, refl)
 
-above : {x : Float} → Distance x → eq x nothing ≡ false → Above x
+above : {x : Float} → Distance x → eq x nought ≡ false → Above x
 above {x} d h = by-size (d .q) (d .value)
   where
     by-size : (q : ℕ) → HasValue x false q unity → Above x
-    by-size zero v = absurd (true≢false (sym (holds (eq x nothing) (eq-part binary32 x nothing 0 0 0 0 (plus-part binary32 x 0 v) nothing-part .1 refl)) ∙ h))
+    by-size zero v = absurd (true≢false (sym (holds (eq x nought) (eq-part binary32 x nought 0 0 0 0 (plus-part binary32 x 0 v) nought-part .1 refl)) ∙ h))
       where
         holds : (b : Bool) → T b → b ≡ true
         holds true t = refl
@@ -178,9 +178,9 @@ module _ (s : StepIterator) (A : HeldFeet (s .start)) (B : HeldFeet (s .last)) (
       let move = permits rows.maxMove (s .«max_move») in
       let c = and-l all move (and-l (all && move) (permits rows.direction (s .«step_height»)) taken) in
       let m = at-max-move (s .«max_move») M (and-r all move (and-l (all && move) (permits rows.direction (s .«step_height»)) taken)) in
-      let i = permittedFeet (s .start) in
-      let j = permittedFeet (s .last) in
-      let k = permittedFeet (s .target) in
+      let i = permittedFeet rows.foot (s .start) in
+      let j = permittedFeet rows.foot (s .last) in
+      let k = permittedFeet rows.foot (s .target) in
       let ij = and-l (i && j) k c in
       let start = and-l i j ij in
       let f = longest-distance (s .start) (s .target) A C start (and-r (i && j) k c) in

@@ -1,4 +1,5 @@
 -- A leg's step as ours computes it is document 01's: where the sine is not asked for, the height does not need it.
+use Rattle.commands.specs.Constants.{nought, one}
 use mathlib.Core.Path.{_≡_, refl}
 use mathlib.Core.Bool.{Bool, true, false, _&&_, _||_}
 use lib.Ieee.{Float, binary32, add, mul, lt, le}
@@ -8,8 +9,7 @@ use Rattle.sines.specs.How.{sine}
 use Rattle.moves.specs.Distance.{same}
 use Rattle.moves.specs.declared.MoveStep.{MoveStep}
 use Rattle.moves.specs.declared.MoveStep.the-variants.{Moved, Arrived}
-use Rattle.steps.specs.Leg.{one, half, halfTurn, along, stepLiftedLeg}
-use Rattle.steps.specs.Next.{nothing}
+use Rattle.steps.specs.Leg.{half, halfTurn, along, stepLiftedLeg}
 use Rattle.steps.specs.How.{atOnce, swing, raised, legAt}
 
 module _ (start last target : Point) (height progress sine' : Float) where
@@ -26,7 +26,7 @@ module _ (start last target : Point) (height progress sine' : Float) where
         z = add binary32 up (start .z);
       })))
 
-  unasked : (now done : Bool) → at-height done (choose now height (mul binary32 (choose (now || done) nothing sine') height)) ≡ at-height done (choose now height (mul binary32 sine' height))
+  unasked : (now done : Bool) → at-height done (choose now height (mul binary32 (choose (now || done) nought sine') height)) ≡ at-height done (choose now height (mul binary32 sine' height))
   unfolding at-height
   unasked true true = refl
   unasked true false = refl

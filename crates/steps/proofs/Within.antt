@@ -1,4 +1,5 @@
 -- No number passes a limit inside: where the door lets a state and a time through, a step asks for the sine of a number within document 01's row, or for none.
+use Rattle.commands.specs.Constants.{one}
 use mathlib.Core.Path.{_≡_, refl, sym, subst}
 use mathlib.Core.Logic.{_⊎_, inl, inr}
 use mathlib.Core.Bool.{Bool, true, false, not, _&&_, true≢false}
@@ -19,7 +20,7 @@ use Rattle.bounds.proofs.Between.{product-between}
 use Rattle.bounds.proofs.Rows.{sine-row}
 use Rattle.commands.specs.Times.{elapsedPermitted, periodPermitted, inSeconds}
 use Rattle.commands.specs.declared.Time.{Time}
-use Rattle.steps.specs.Leg.{one, halfTurn}
+use Rattle.steps.specs.Leg.{halfTurn}
 use Rattle.steps.specs.Progress.{timedProgress, evenProgress}
 use Rattle.steps.specs.Refusals.{finiteCourse, permittedCourse, liftRefusal, atRefusal}
 use Rattle.steps.specs.declared.TimedStepIterator.{TimedStepIterator}

@@ -45,7 +45,7 @@ stepIterTold start target move height lifted aggressive =
 unfoldable pub nextStepTold : StepIterator → Told
 nextStepTold s = answer (stepRefusal s) (toldNextStep (nextStep s))
 
--- by time
+-- by time, at either pace
 unfoldable pub timedIterTold : Feet → Feet → Time → Lift → Told
 timedIterTold start target period lift =
     answer
@@ -59,12 +59,6 @@ nextTimedTold s elapsed =
     (toldNextTimed (nextTimed s elapsed))
 
 -- at even pace
-unfoldable pub evenIterTold : Feet → Feet → Time → Lift → Told
-evenIterTold start target period lift =
-    answer
-    (liftRefusal start start target lift period)
-    (given (liftMarks lift period) (liftValues lift start start target))
-
 unfoldable pub nextEvenTold : EvenStepIterator → Time → Told
 nextEvenTold s elapsed =
     answer

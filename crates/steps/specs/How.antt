@@ -1,4 +1,5 @@
 -- How ours computes a leg's step: the sine is asked for once for all six legs, and only where a height needs it. Nothing of document 01.
+use Rattle.commands.specs.Constants.{nought, one}
 use mathlib.Core.Bool.{Bool, _&&_, _||_}
 use lib.Ieee.{Float, binary32, add, mul, lt, le}
 use Rattle.numbers.specs.Told.{choose}
@@ -7,8 +8,7 @@ use Rattle.sines.specs.How.{sine}
 use Rattle.moves.specs.Distance.{same}
 use Rattle.moves.specs.declared.MoveStep.{MoveStep}
 use Rattle.moves.specs.declared.MoveStep.the-variants.{Moved, Arrived}
-use Rattle.steps.specs.Leg.{one, half, halfTurn, along}
-use Rattle.steps.specs.Next.{nothing}
+use Rattle.steps.specs.Leg.{half, halfTurn, along}
 
 unfoldable pub atOnce : Bool → Float → Bool
 atOnce aggressive progress = aggressive && lt progress half
@@ -16,7 +16,7 @@ atOnce aggressive progress = aggressive && lt progress half
 unfoldable pub swing : Bool → Float → Float
 swing unused progress =
     choose (unused || le one progress)
-    nothing
+    nought
     (sine (mul binary32 progress halfTurn))
 
 unfoldable pub raised : Bool → Float → Float → Float

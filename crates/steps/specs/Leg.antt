@@ -1,5 +1,6 @@
 -- Document 01, "Steps": one leg. "last equals target, target, not moved; progress >= 1, target, moved. Else x, y are start + (target - start) * progress,
 -- and z is sine(progress * P) * height + start z, or height + start z in aggressive mode while progress < 0.5."
+use Rattle.commands.specs.Constants.{one}
 use Prim.Native.Nat.{_^_}
 use mathlib.Core.Bool.{Bool, _&&_}
 use lib.Ieee.{Float, binary32, add, sub, mul, lt, le}
@@ -10,9 +11,6 @@ use Rattle.sines.specs.How.{sine}
 use Rattle.moves.specs.Distance.{same}
 use Rattle.moves.specs.declared.MoveStep.{MoveStep}
 use Rattle.moves.specs.declared.MoveStep.the-variants.{Moved, Arrived}
-
-unfoldable pub one : Float
-one = over 1 1
 
 unfoldable pub half : Float
 half = over 1 2

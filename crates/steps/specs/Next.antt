@@ -1,4 +1,5 @@
 -- Document 01, "Steps": the three iterators. A step that moved hands on its feet, and the state that remembers them; "No step" leaves all as it is.
+use Rattle.commands.specs.Constants.{nought}
 use mathlib.Core.Bool.{Bool}
 use lib.Ieee.{Float, eq, le}
 use Rattle.numbers.specs.Told.{choose}
@@ -21,23 +22,20 @@ use Rattle.steps.specs.declared.NextTimed.the-variants.{Step as TimedSte
 use Rattle.steps.specs.declared.NextEven.{NextEven}
 use Rattle.steps.specs.declared.NextEven.the-variants.{Step as EvenStep, NoStep as NoEvenStep}
 
-unfoldable pub nothing : Float
-nothing = over 0 1
-
 -- full: "longest of start and target". "Longest of start and target is 0: no step, though z may differ."
 -- The source tests a step by time with <=
 abbrev pub stepEnded : Float → Bool
-stepEnded full = eq full nothing
+stepEnded full = eq full nought
 
 abbrev pub timedEnded : Float → Bool
-timedEnded full = le full nothing
+timedEnded full = le full nought
 
 -- `StepIterator`: "its descent is 0"
 abbrev pub stepLift : StepIterator → Lift
 stepLift s =
     record {
       «step_height» = s .«step_height»;
-      «grounded_leg_descent» = nothing;
+      «grounded_leg_descent» = nought;
       tripod = s .tripod;
       «aggressive_leg_lift» = s .«aggressive_leg_lift»;
     }

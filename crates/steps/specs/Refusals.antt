@@ -3,9 +3,9 @@ use Prim.Native.Nat.{ℕ}
 use mathlib.Core.Bool.{Bool, _&&_}
 use mathlib.Core.List.{[], _∷_}
 use Rattle.numbers.specs.Door.{finite, permits, unless, either, firstOf}
-use Rattle.numbers.specs.Limits.{maxMove, direction}
+use Rattle.numbers.specs.Limits.{foot as footLimit, maxMove, direction}
 use Rattle.legs.specs.declared.Feet.{Feet}
-use Rattle.moves.specs.Refusals.{finiteFeet, permittedFeet}
+use Rattle.legs.specs.Legs.{finiteFeet, permittedFeet}
 use Rattle.commands.specs.Times.{elapsedPermitted, periodPermitted}
 use Rattle.commands.specs.declared.Time.{Time}
 use Rattle.steps.specs.declared.Lift.{Lift}
@@ -19,7 +19,7 @@ abbrev pub finiteCourse : Feet → Feet → Feet → Bool
 finiteCourse start last target = finiteFeet start && finiteFeet last && finiteFeet target
 
 abbrev pub permittedCourse : Feet → Feet → Feet → Bool
-permittedCourse start last target = permittedFeet start && permittedFeet last && permittedFeet target
+permittedCourse start last target = permittedFeet footLimit start && permittedFeet footLimit last && permittedFeet footLimit target
 
 unfoldable pub stepRefusal : StepIterator → ℕ
 stepRefusal s =

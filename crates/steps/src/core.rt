@@ -13,9 +13,8 @@ use legs::Point;
 use moves::FeetStep;
 use moves::MoveStep;
 ghost use mathlib.Core.Path.{_≡_};
-ghost use mathlib.Core.Bool.{_&&_};
 ghost use Rattle.numbers.specs.Told.{choose};
-ghost use Rattle.moves.specs.Refusals.{finiteFeet, permittedFeet};
+ghost use Rattle.steps.specs.Refusals.{finiteCourse, permittedCourse};
 ghost use Rattle.steps.specs.Progress.{stepProgress, timedProgress, evenProgress};
 ghost use Rattle.steps.specs.Leg.{stepLiftedLeg};
 ghost use Rattle.legs.specs.Legs.{leftFront, rightFront};
@@ -283,14 +282,14 @@ pub fn next_even(s: EvenStepIterator, elapsed: Time) -> NextEven
 
 // Whether every coordinate of start, last and target is finite.
 pub fn course_finite(start: Feet, last: Feet, target: Feet) -> bool
-    ensures { λ r. ⌜ r ≡ (finiteFeet start && finiteFeet last && finiteFeet target) ⌝ }
+    ensures { λ r. ⌜ r ≡ finiteCourse start last target ⌝ }
 {
     legs::core::feet_finite(start) & legs::core::feet_finite(last) & legs::core::feet_finite(target)
 }
 
 // Whether every coordinate of start, last and target is in the table.
 pub fn course_permitted(start: Feet, last: Feet, target: Feet) -> bool
-    ensures { λ r. ⌜ r ≡ (permittedFeet start && permittedFeet last && permittedFeet target) ⌝ }
+    ensures { λ r. ⌜ r ≡ permittedCourse start last target ⌝ }
 {
     let limit = numbers::limits::foot();
     legs::core::feet_permitted(limit, start)

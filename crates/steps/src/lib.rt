@@ -9,7 +9,7 @@ ghost use mathlib.Core.Path.{_≡_};
 ghost use Rattle.numbers.specs.Answers.{told};
 ghost use Rattle.steps.specs.Answers.{toldStepIter, toldNextStep, toldTimedIter, toldNextTimed, toldEvenIter, toldNextEven};
 ghost use Rattle.steps.specs.Refusals.{progressRefusal, stepRefusal, liftRefusal, atRefusal};
-ghost use Rattle.steps.specs.Entries.{timedProgressTold, evenProgressTold, stepIterTold, nextStepTold, timedIterTold, nextTimedTold, evenIterTold, nextEvenTold};
+ghost use Rattle.steps.specs.Entries.{timedProgressTold, evenProgressTold, stepIterTold, nextStepTold, timedIterTold, nextTimedTold, nextEvenTold};
 
 pub mod core;
 
@@ -251,7 +251,7 @@ impl TimedStepIterator {
 impl EvenStepIterator {
     // Sets out from start, for a step of this period.
     pub fn step(start: Feet, target: Feet, period: Time, lift: Lift) -> EvenIter
-        ensures { λ r. ⌜ toldEvenIter r ≡ evenIterTold start target period lift ⌝ }
+        ensures { λ r. ⌜ toldEvenIter r ≡ timedIterTold start target period lift ⌝ }
     {
         let n = lift_refused(start, start, target, lift, period);
         if n == 0 {

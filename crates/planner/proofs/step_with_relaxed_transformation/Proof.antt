@@ -1,15 +1,8 @@
 -- `planner::step_with_relaxed_transformation` meets its contract: refused, or what the core gives.
 use Rattle.planner.specs.Entry.{planTold}
 use borrow.Author.Tests.{eq-eqb, ne-eqb}
-use borrow.Author.Needs.{needs}
 use Rattle.planner.proofs.step_with_relaxed_transformation.Statement.{statement}
 use Rattle.planner.proofs.step_with_relaxed_transformation.Tie as tie
-
-plan-refused-requires : tie.Need-plan-refused-requires
-plan-refused-requires c κs = search needs
-
-step-with-relaxed-transformation-requires : tie.Need-step-with-relaxed-transformation-requires
-step-with-relaxed-transformation-requires c κs = search needs
 
 returns : tie.Need-returns
 unfolding planTold
@@ -27,4 +20,4 @@ returns-2 c = simp (ne-eqb _ 0 (c .if1 .left), ← c .before .plan-refused .ensu
 pub step-with-relaxed-transformation-spec : {M : Type 1} → statement M
 step-with-relaxed-transformation-spec =
     tie.close
-    (tie.spec plan-refused-requires step-with-relaxed-transformation-requires returns returns-2)
+    (tie.spec (λ _ _. tt) (λ _ _. tt) returns returns-2)

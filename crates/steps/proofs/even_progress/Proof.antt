@@ -1,15 +1,8 @@
 -- `steps::even_progress` meets its contract: refused, or what the core gives.
 use Rattle.steps.specs.Entries.{evenProgressTold}
 use borrow.Author.Tests.{eq-eqb, ne-eqb}
-use borrow.Author.Needs.{needs}
 use Rattle.steps.proofs.even_progress.Statement.{statement}
 use Rattle.steps.proofs.even_progress.Tie as tie
-
-progress-refused-requires : tie.Need-progress-refused-requires
-progress-refused-requires c κs = search needs
-
-even-progress-requires : tie.Need-even-progress-requires
-even-progress-requires c κs = search needs
 
 returns : tie.Need-returns
 unfolding evenProgressTold
@@ -21,4 +14,4 @@ returns-2 c = simp (ne-eqb _ 0 (c .if1 .left), ← c .before .progress-refused .
 
 pub even-progress-spec : {M : Type 1} → statement M
 even-progress-spec =
-    tie.close (tie.spec progress-refused-requires even-progress-requires returns returns-2)
+    tie.close (tie.spec (λ _ _. tt) (λ _ _. tt) returns returns-2)

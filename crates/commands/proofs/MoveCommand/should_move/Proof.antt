@@ -1,15 +1,8 @@
 -- `commands::MoveCommand::should_move` meets its contract: refused, or what the core says.
 use Rattle.commands.specs.Command.{shouldMoveTold}
 use borrow.Author.Tests.{eq-eqb, ne-eqb}
-use borrow.Author.Needs.{needs}
 use Rattle.commands.proofs.MoveCommand.should_move.Statement.{statement}
 use Rattle.commands.proofs.MoveCommand.should_move.Tie as tie
-
-refused-requires : tie.Need-refused-requires
-refused-requires c κs = search needs
-
-should-move-requires : tie.Need-should-move-requires
-should-move-requires c κs = search needs
 
 returns : tie.Need-returns
 unfolding shouldMoveTold
@@ -37,4 +30,4 @@ returns-3 c = simp (ne-eqb _ 0 (c .if1 .left), ← c .before .refused .ensures)
 
 pub should-move-spec : {M : Type 1} → statement M
 should-move-spec =
-    tie.close (tie.spec refused-requires should-move-requires returns returns-2 returns-3)
+    tie.close (tie.spec (λ _ _. tt) (λ _ _. tt) returns returns-2 returns-3)

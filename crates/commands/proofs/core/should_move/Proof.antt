@@ -3,22 +3,12 @@ use mathlib.Core.Path.{_≡_, refl}
 use lib.Ieee.{binary32, ofBits}
 use Rattle.numbers.specs.Limits.{over}
 use Rattle.commands.specs.Command.{epsilon, shouldMove}
-use borrow.Author.Needs.{needs}
 use Rattle.commands.proofs.core.should_move.Statement.{statement}
 use Rattle.commands.proofs.core.should_move.Tie as tie
 
 epsilon-bits : ofBits binary32 872415232 ≡ epsilon
 unfolding ofBits over epsilon
 epsilon-bits = refl
-
-absolute-requires : tie.Need-absolute-requires
-absolute-requires c κs = search needs
-
-absolute-requires-2 : tie.Need-absolute-requires-2
-absolute-requires-2 c κs = search needs
-
-absolute-requires-3 : tie.Need-absolute-requires-3
-absolute-requires-3 c κs = search needs
 
 returns : tie.Need-returns
 unfolding shouldMove
@@ -32,4 +22,4 @@ returns c =
 
 pub should-move-spec : {M : Type 1} → statement M
 should-move-spec =
-    tie.close (tie.spec absolute-requires absolute-requires-2 absolute-requires-3 returns)
+    tie.close (tie.spec (λ _ _. tt) (λ _ _. tt) (λ _ _. tt) returns)

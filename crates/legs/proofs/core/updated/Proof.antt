@@ -34,17 +34,11 @@ add-sixth c = search needs
 array-copy-out-chosen : tie.Need-array-copy-out-chosen
 array-copy-out-chosen c = search needs
 
-chosen-requires : tie.Need-chosen-requires
-chosen-requires c κs = search needs
-
 mul-chosen : tie.Need-mul-chosen
 mul-chosen c = search needs
 
 array-copy-out-chosen-2 : tie.Need-array-copy-out-chosen-2
 array-copy-out-chosen-2 c = search needs
-
-chosen-requires-2 : tie.Need-chosen-requires-2
-chosen-requires-2 c κs = search needs
 
 mul-chosen-2 : tie.Need-mul-chosen-2
 mul-chosen-2 c = search needs
@@ -52,17 +46,11 @@ mul-chosen-2 c = search needs
 array-copy-out-chosen-3 : tie.Need-array-copy-out-chosen-3
 array-copy-out-chosen-3 c = search needs
 
-chosen-requires-3 : tie.Need-chosen-requires-3
-chosen-requires-3 c κs = search needs
-
 mul-chosen-3 : tie.Need-mul-chosen-3
 mul-chosen-3 c = search needs
 
 array-copy-out-chosen-4 : tie.Need-array-copy-out-chosen-4
 array-copy-out-chosen-4 c = search needs
-
-chosen-requires-4 : tie.Need-chosen-requires-4
-chosen-requires-4 c κs = search needs
 
 mul-chosen-4 : tie.Need-mul-chosen-4
 mul-chosen-4 c = search needs
@@ -70,17 +58,11 @@ mul-chosen-4 c = search needs
 array-copy-out-chosen-5 : tie.Need-array-copy-out-chosen-5
 array-copy-out-chosen-5 c = search needs
 
-chosen-requires-5 : tie.Need-chosen-requires-5
-chosen-requires-5 c κs = search needs
-
 mul-chosen-5 : tie.Need-mul-chosen-5
 mul-chosen-5 c = search needs
 
 array-copy-out-chosen-6 : tie.Need-array-copy-out-chosen-6
 array-copy-out-chosen-6 c = search needs
-
-chosen-requires-6 : tie.Need-chosen-requires-6
-chosen-requires-6 c κs = search needs
 
 returns : tie.Need-returns
 unfolding updated
@@ -108,20 +90,20 @@ updated-spec =
     cast-sixth
     add-sixth
     array-copy-out-chosen
-    chosen-requires
+    (λ _ _. tt)
     mul-chosen
     array-copy-out-chosen-2
-    chosen-requires-2
+    (λ _ _. tt)
     mul-chosen-2
     array-copy-out-chosen-3
-    chosen-requires-3
+    (λ _ _. tt)
     mul-chosen-3
     array-copy-out-chosen-4
-    chosen-requires-4
+    (λ _ _. tt)
     mul-chosen-4
     array-copy-out-chosen-5
-    chosen-requires-5
+    (λ _ _. tt)
     mul-chosen-5
     array-copy-out-chosen-6
-    chosen-requires-6
+    (λ _ _. tt)
     returns)

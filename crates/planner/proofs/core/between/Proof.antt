@@ -1,6 +1,6 @@
 -- `planner::core::between` meets its contract, coordinate by coordinate.
+use Rattle.commands.proofs.Constants.{nought-bits}
 use Rattle.planner.specs.Plan.{between}
-use Rattle.planner.proofs.Bits.{nought-bits}
 use Rattle.planner.proofs.core.between.Statement.{statement}
 use Rattle.planner.proofs.core.between.Tie as tie
 

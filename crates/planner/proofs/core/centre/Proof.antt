@@ -1,6 +1,7 @@
 -- `planner::core::centre` meets its contract, coordinate by coordinate.
+use Rattle.commands.proofs.Constants.{nought-bits}
 use Rattle.planner.specs.Plan.{centre}
-use Rattle.planner.proofs.Bits.{nought-bits, three-bits}
+use Rattle.planner.proofs.Bits.{three-bits}
 use Rattle.planner.proofs.core.centre.Statement.{statement}
 use Rattle.planner.proofs.core.centre.Tie as tie
 

@@ -6,14 +6,8 @@ use Rattle.planner.proofs.core.summed.Tie as tie
 enum-told : tie.Need-enum-told
 enum-told c = search needs
 
-three-requires : tie.Need-three-requires
-three-requires c κs = search needs
-
 enum-told-2 : tie.Need-enum-told-2
 enum-told-2 c = search needs
-
-three-requires-2 : tie.Need-three-requires-2
-three-requires-2 c κs = search needs
 
 returns : tie.Need-returns
 returns c = simp (c .before .enum-told .given .1, c .three .ensures)
@@ -23,4 +17,4 @@ returns-2 c = simp (c .before .enum-told2 .given .1, c .three2 .ensures)
 
 pub summed-spec : {M : Type 1} → statement M
 summed-spec =
-    tie.close (tie.spec enum-told three-requires enum-told-2 three-requires-2 returns returns-2)
+    tie.close (tie.spec enum-told (λ _ _. tt) enum-told-2 (λ _ _. tt) returns returns-2)

@@ -1,5 +1,5 @@
 -- `planner::turns::is_zero` meets its contract: the bits of 0.
-use Rattle.planner.proofs.Bits.{nought-bits}
+use Rattle.commands.proofs.Constants.{nought-bits}
 use Rattle.planner.proofs.turns.is_zero.Statement.{statement}
 use Rattle.planner.proofs.turns.is_zero.Tie as tie
 

@@ -1,18 +1,8 @@
 -- `planner::turns::turn_between` meets its contract, by its one test.
+use Rattle.commands.proofs.Constants.{nought-bits}
 use Rattle.planner.specs.Turns.{turnBetween}
-use Rattle.planner.proofs.Bits.{nought-bits}
-use borrow.Author.Needs.{needs}
 use Rattle.planner.proofs.turns.turn_between.Statement.{statement}
 use Rattle.planner.proofs.turns.turn_between.Tie as tie
-
-is-zero-requires : tie.Need-is-zero-requires
-is-zero-requires c κs = search needs
-
-is-zero-requires-2 : tie.Need-is-zero-requires-2
-is-zero-requires-2 c κs = search needs
-
-atan2-requires : tie.Need-atan2-requires
-atan2-requires c κs = search needs
 
 returns : tie.Need-returns
 unfolding turnBetween
@@ -30,4 +20,4 @@ returns-2 c =
 
 pub turn-between-spec : {M : Type 1} → statement M
 turn-between-spec =
-    tie.close (tie.spec is-zero-requires is-zero-requires-2 atan2-requires returns returns-2)
+    tie.close (tie.spec (λ _ _. tt) (λ _ _. tt) (λ _ _. tt) returns returns-2)

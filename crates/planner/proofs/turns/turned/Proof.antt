@@ -7,20 +7,11 @@ use Rattle.planner.proofs.turns.turned.Tie as tie
 array-copy-out-dotted : tie.Need-array-copy-out-dotted
 array-copy-out-dotted c = search needs
 
-dotted-requires : tie.Need-dotted-requires
-dotted-requires c κs = search needs
-
 array-copy-out-dotted-2 : tie.Need-array-copy-out-dotted-2
 array-copy-out-dotted-2 c = search needs
 
-dotted-requires-2 : tie.Need-dotted-requires-2
-dotted-requires-2 c κs = search needs
-
 array-copy-out-dotted-3 : tie.Need-array-copy-out-dotted-3
 array-copy-out-dotted-3 c = search needs
-
-dotted-requires-3 : tie.Need-dotted-requires-3
-dotted-requires-3 c κs = search needs
 
 returns : tie.Need-returns
 unfolding applied
@@ -31,9 +22,9 @@ turned-spec =
     tie.close
     (tie.spec
     array-copy-out-dotted
-    dotted-requires
+    (λ _ _. tt)
     array-copy-out-dotted-2
-    dotted-requires-2
+    (λ _ _. tt)
     array-copy-out-dotted-3
-    dotted-requires-3
+    (λ _ _. tt)
     returns)

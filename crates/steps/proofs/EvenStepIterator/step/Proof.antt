@@ -1,20 +1,16 @@
 -- `steps::EvenStepIterator::step` meets its contract: refused, or the state with last = start.
-use Rattle.steps.specs.Entries.{evenIterTold}
+use Rattle.steps.specs.Entries.{timedIterTold}
 use borrow.Author.Tests.{eq-eqb, ne-eqb}
-use borrow.Author.Needs.{needs}
 use Rattle.steps.proofs.EvenStepIterator.step.Statement.{statement}
 use Rattle.steps.proofs.EvenStepIterator.step.Tie as tie
 
-lift-refused-requires : tie.Need-lift-refused-requires
-lift-refused-requires c κs = search needs
-
 returns : tie.Need-returns
-unfolding evenIterTold
+unfolding timedIterTold
 returns c = simp (eq-eqb _ 0 (c .if1 .taken), ← c .before .lift-refused .ensures)
 
 returns-2 : tie.Need-returns-2
-unfolding evenIterTold
+unfolding timedIterTold
 returns-2 c = simp (ne-eqb _ 0 (c .if1 .left), ← c .before .lift-refused .ensures)
 
 pub step-spec : {M : Type 1} → statement M
-step-spec = tie.close (tie.spec lift-refused-requires returns returns-2)
+step-spec = tie.close (tie.spec (λ _ _. tt) returns returns-2)

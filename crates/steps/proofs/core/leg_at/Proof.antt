@@ -1,12 +1,8 @@
 -- `steps::core::leg_at` meets its contract, by its two tests.
+use Rattle.commands.proofs.Constants.{one-bits}
 use Rattle.steps.specs.How.{legAt}
-use Rattle.steps.proofs.Bits.{one-bits}
-use borrow.Author.Needs.{needs}
 use Rattle.steps.proofs.core.leg_at.Statement.{statement}
 use Rattle.steps.proofs.core.leg_at.Tie as tie
-
-is-same-requires : tie.Need-is-same-requires
-is-same-requires c κs = search needs
 
 returns : tie.Need-returns
 unfolding legAt
@@ -27,4 +23,4 @@ returns-3 c =
     )
 
 pub leg-at-spec : {M : Type 1} → statement M
-leg-at-spec = tie.close (tie.spec is-same-requires returns returns-2 returns-3)
+leg-at-spec = tie.close (tie.spec (λ _ _. tt) returns returns-2 returns-3)

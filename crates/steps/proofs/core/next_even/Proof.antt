@@ -4,12 +4,6 @@ use borrow.Author.Needs.{needs}
 use Rattle.steps.proofs.core.next_even.Statement.{statement}
 use Rattle.steps.proofs.core.next_even.Tie as tie
 
-even-progress-requires : tie.Need-even-progress-requires
-even-progress-requires c κs = search needs
-
-by-time-requires : tie.Need-by-time-requires
-by-time-requires c κs = search needs
-
 enum-known-step : tie.Need-enum-known-step
 enum-known-step c = search needs
 
@@ -38,8 +32,8 @@ pub next-even-spec : {M : Type 1} → statement M
 next-even-spec =
     tie.close
     (tie.spec
-    even-progress-requires
-    by-time-requires
+    (λ _ _. tt)
+    (λ _ _. tt)
     enum-known-step
     enum-told
     returns

@@ -1,25 +1,13 @@
 -- `steps::core::next_step` meets its contract: by whether it has ended, and by what the legs did.
+use Rattle.commands.proofs.Constants.{nought-bits}
 use Rattle.steps.specs.Next.{nextStep}
-use Rattle.steps.proofs.Bits.{nothing-bits}
 use borrow.Author.Needs.{needs}
 use Rattle.steps.proofs.core.next_step.Statement.{statement}
 use Rattle.steps.proofs.core.next_step.Tie as tie
 
-max-horizontal-distance-requires : tie.Need-max-horizontal-distance-requires
-max-horizontal-distance-requires c κs = search needs
-
 returns : tie.Need-returns
 unfolding nextStep
-returns c = simp (← nothing-bits, c .if1 .taken, ← c .before .max-horizontal-distance .ensures)
-
-max-horizontal-distance-requires-2 : tie.Need-max-horizontal-distance-requires-2
-max-horizontal-distance-requires-2 c κs = search needs
-
-step-progress-requires : tie.Need-step-progress-requires
-step-progress-requires c κs = search needs
-
-shift-legs-requires : tie.Need-shift-legs-requires
-shift-legs-requires c κs = search needs
+returns c = simp (← nought-bits, c .if1 .taken, ← c .before .max-horizontal-distance .ensures)
 
 enum-known-step : tie.Need-enum-known-step
 enum-known-step c = search needs
@@ -31,7 +19,7 @@ returns-2 : tie.Need-returns-2
 unfolding nextStep
 returns-2 c =
     simp (
-      ← nothing-bits,
+      ← nought-bits,
       ← c .before .before .before .shift-legs .ensures,
       ← c .before .before .before .before .step-progress .ensures,
       ← c .before .before .before .before .before .max-horizontal-distance2 .ensures,
@@ -44,7 +32,7 @@ returns-3 : tie.Need-returns-3
 unfolding nextStep
 returns-3 c =
     simp (
-      ← nothing-bits,
+      ← nought-bits,
       ← c .before .before .shift-legs .ensures,
       ← c .before .before .before .step-progress .ensures,
       ← c .before .before .before .before .max-horizontal-distance2 .ensures,
@@ -57,11 +45,11 @@ pub next-step-spec : {M : Type 1} → statement M
 next-step-spec =
     tie.close
     (tie.spec
-    max-horizontal-distance-requires
+    (λ _ _. tt)
     returns
-    max-horizontal-distance-requires-2
-    step-progress-requires
-    shift-legs-requires
+    (λ _ _. tt)
+    (λ _ _. tt)
+    (λ _ _. tt)
     enum-known-step
     enum-told
     returns-2

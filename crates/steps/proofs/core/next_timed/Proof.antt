@@ -4,12 +4,6 @@ use borrow.Author.Needs.{needs}
 use Rattle.steps.proofs.core.next_timed.Statement.{statement}
 use Rattle.steps.proofs.core.next_timed.Tie as tie
 
-timed-progress-requires : tie.Need-timed-progress-requires
-timed-progress-requires c κs = search needs
-
-by-time-requires : tie.Need-by-time-requires
-by-time-requires c κs = search needs
-
 enum-known-step : tie.Need-enum-known-step
 enum-known-step c = search needs
 
@@ -38,8 +32,8 @@ pub next-timed-spec : {M : Type 1} → statement M
 next-timed-spec =
     tie.close
     (tie.spec
-    timed-progress-requires
-    by-time-requires
+    (λ _ _. tt)
+    (λ _ _. tt)
     enum-known-step
     enum-told
     returns

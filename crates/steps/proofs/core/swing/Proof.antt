@@ -1,20 +1,17 @@
 -- `steps::core::swing` meets its contract, by its one test.
+use Rattle.commands.proofs.Constants.{nought-bits, one-bits}
 use Rattle.steps.specs.How.{swing}
-use Rattle.steps.proofs.Bits.{nothing-bits, one-bits, half-turn-bits}
-use borrow.Author.Needs.{needs}
+use Rattle.steps.proofs.Bits.{half-turn-bits}
 use Rattle.steps.proofs.core.swing.Statement.{statement}
 use Rattle.steps.proofs.core.swing.Tie as tie
 
-sine-requires : tie.Need-sine-requires
-sine-requires c κs = search needs
-
 returns : tie.Need-returns
 unfolding swing
-returns c = simp (← one-bits, ← nothing-bits, c .if1 .taken)
+returns c = simp (← one-bits, ← nought-bits, c .if1 .taken)
 
 returns-2 : tie.Need-returns-2
 unfolding swing
 returns-2 c = simp (← one-bits, ← half-turn-bits, c .sine .ensures .0, c .before .if1 .left)
 
 pub swing-spec : {M : Type 1} → statement M
-swing-spec = tie.close (tie.spec sine-requires returns returns-2)
+swing-spec = tie.close (tie.spec (λ _ _. tt) returns returns-2)
