@@ -130,12 +130,10 @@ impl MoveCommand {
     pub fn refused(self) -> u32
         ensures { λ r. ⌜ r ≡ commandRefusal self ⌝ }
     {
-        door::either(
-            door::unless(core::command_finite(self), 1),
-            door::either(
-                door::unless(core::command_permitted(self), 2),
-                door::unless(core::is_period(self.step_time), 3),
-            ),
+        door::first_of(
+            core::command_finite(self),
+            core::command_permitted(self),
+            door::unless(core::is_period(self.step_time), 3),
         )
     }
 

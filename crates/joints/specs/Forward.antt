@@ -1,5 +1,6 @@
 -- Document 01, "Joints": where the six feet stand at given motor angles. Formulas and order of operations as in the source, over our sine and cosine.
 use Prim.Native.Nat.{ℕ}
+use mathlib.Core.Path.{_≡_}
 use mathlib.Core.Bool.{_&&_}
 use mathlib.Core.List.{[], _∷_}
 use lib.Ieee.{Float, binary32, ofBits, add, sub, mul, neg}
@@ -18,6 +19,7 @@ use Rattle.joints.specs.Degrees.{ninety, oneFifty}
 use Rattle.joints.specs.declared.configuration.Body.{Body}
 use Rattle.joints.specs.declared.configuration.LegConfiguration.{LegConfiguration}
 use Rattle.joints.specs.declared.configuration.Configuration.{Configuration}
+use Rattle.joints.specs.declared.core.Turns.{Turns}
 
 -- the angle in the leg, for what its motor says
 unfoldable pub fromMotor : Float → Float → Float → Float
@@ -32,6 +34,15 @@ femurTurn m b l = sub binary32 (fromMotor (m .femur) (l .«femur_correction») (
 
 unfoldable pub tibiaTurn : LegAngles → Body → LegConfiguration → Float
 tibiaTurn m b l = sub binary32 (fromMotor (m .tibia) (l .«tibia_correction») (b .«tibia_offset»)) (sub binary32 ninety (femurTurn m b l))
+
+-- t has their sines and cosines
+pub record TurnsOf (m : LegAngles) (b : Body) (l : LegConfiguration) (t : Turns) : Type 0 where
+  pub base-sine : t .base .sine ≡ sine (baseAngle m l)
+  pub base-cosine : t .base .cosine ≡ cosine (baseAngle m l)
+  pub femur-sine : t .femur .sine ≡ sine (femurTurn m b l)
+  pub femur-cosine : t .femur .cosine ≡ cosine (femurTurn m b l)
+  pub tibia-sine : t .tibia .sine ≡ sine (tibiaTurn m b l)
+  pub tibia-cosine : t .tibia .cosine ≡ cosine (tibiaTurn m b l)
 
 -- the coxa, the femur and the tibia as vectors, of a leg that points along base
 abbrev pub coxaVector : Float → Float → Point

@@ -22,6 +22,7 @@ use Rattle.joints.specs.declared.configuration.Body.{Body}
 use Rattle.joints.specs.declared.configuration.LegConfiguration.{LegConfiguration}
 use Rattle.joints.specs.declared.configuration.Configuration.{Configuration}
 use Rattle.joints.specs.declared.core.Reach.{Reach}
+use Rattle.joints.specs.declared.core.Course.{Course}
 use Rattle.joints.specs.declared.core.Side.the-variants.{Positive, Negative}
 use Rattle.joints.specs.declared.core.LegSolved.{LegSolved}
 use Rattle.joints.specs.declared.core.LegSolved.the-variants.{Angles, Past as LegPast}
@@ -106,6 +107,12 @@ coxaAngle target l = targetAngle (relative target (l .position)) l
 
 unfoldable pub legAngles : Point → Body → LegConfiguration → LegAngles
 legAngles target b l = solvedAngles (relative target (l .position)) (coxaAngle target l) b l
+
+-- how a leg sets out: from its coxa to the target, its coxa's angle, and how far the foot is
+unfoldable pub course : Point → Body → LegConfiguration → Course
+course target b l =
+    let v = relative target (l .position) in
+    record { v = v; angle = coxaAngle target l; to = reach v (b .«coxa_length») }
 
 unfoldable pub solvedLeg : Point → Body → LegConfiguration → LegSolved
 solvedLeg target b l =

@@ -6,9 +6,10 @@ use legs::Feet;
 use legs::Joints;
 use legs::LegAngles;
 use legs::Point;
+use sines::core::Turn;
 ghost use mathlib.Core.Path.{_≡_};
-ghost use Rattle.joints.specs.Inverse.{relative, targetAngle, reach, getAlphaAngle, toMotor, solvedAngles, solvedLeg, solved};
-ghost use Rattle.joints.specs.Forward.{fromMotor, standing, standingFeet};
+ghost use Rattle.joints.specs.Inverse.{relative, reach, getAlphaAngle, toMotor, course, legAngles, solvedLeg, solved};
+ghost use Rattle.joints.specs.Forward.{fromMotor, TurnsOf, standing, standingFeet};
 
 // Rust's `to_radians` of 90 and 150 degrees: 3fc90fdb and 40278d36.
 const NINETY: f32 = 1.5707964;
@@ -19,6 +20,13 @@ const ONE_FIFTY: f32 = 2.6179938;
 pub struct Reach {
     pub horizontal: f32,
     pub distance: f32,
+}
+
+// How a leg sets out: from its coxa to the target, its coxa's angle, and how far the foot is.
+pub struct Course {
+    pub v: Point,
+    pub angle: f32,
+    pub to: Reach,
 }
 
 // The two sides on which a coxa can be past its limit: at 90 degrees or more, at -90 degrees or less.
@@ -79,62 +87,82 @@ pub fn to_motor(correction: f32, offset: f32, angle: f32) -> f32
     numbers::core::absolute(correction + offset + angle)
 }
 
-// The three angles of a leg whose foot is at v and whose coxa turns by this angle.
-pub fn solved_angles(v: Point, angle: f32, body: Body, leg: LegConfiguration) -> LegAngles
-    ensures { λ r. ⌜ r ≡ solvedAngles v angle body leg ⌝ }
+// How one leg sets out.
+pub fn set_out(target: Point, body: Body, leg: LegConfiguration) -> Course
+    ensures { λ r. ⌜ r ≡ course target body leg ⌝ }
 {
+    let v = relative(target, leg.position);
+    let angle = arcs::core::atan2(v.y, v.x) + leg.angle_offset;
     let to = reach_of(v, body.coxa_length);
-    let by_tibia = get_alpha_angle(to.distance, body.femur_length, body.tibia_length);
-    let by_femur = get_alpha_angle(body.tibia_length, body.femur_length, to.distance);
-    let ground = arcs::core::atan2(to.horizontal, -v.z);
+    Course {
+        v: v,
+        angle: angle,
+        to: to,
+    }
+}
+
+// The three angles of a leg that has set out.
+pub fn solved_angles(c: Course, body: Body, leg: LegConfiguration) -> LegAngles
+    ensures { λ r. ⌜ ((target : Point) → c ≡ course target body leg → r ≡ legAngles target body leg) ⌝ }
+{
+    let horizontal = c.to.horizontal;
+    let distance = c.to.distance;
+    let by_tibia = get_alpha_angle(distance, body.femur_length, body.tibia_length);
+    let by_femur = get_alpha_angle(body.tibia_length, body.femur_length, distance);
+    let ground = arcs::core::atan2(horizontal, -c.v.z);
     LegAngles {
-        coxa: ONE_FIFTY + angle,
+        coxa: ONE_FIFTY + c.angle,
         femur: to_motor(leg.femur_correction, body.femur_offset, by_femur + ground),
         tibia: to_motor(leg.tibia_correction, body.tibia_offset, by_tibia),
     }
 }
 
 // One leg's angles, or on which side its coxa would be past the limit.
-pub fn calculate_ik_for_leg(target: Point, body: Body, leg: LegConfiguration) -> LegSolved
-    ensures { λ r. ⌜ r ≡ solvedLeg target body leg ⌝ }
+pub fn calculate_ik_for_leg(c: Course, body: Body, leg: LegConfiguration) -> LegSolved
+    ensures { λ r. ⌜ ((target : Point) → c ≡ course target body leg → r ≡ solvedLeg target body leg) ⌝ }
 {
-    let v = relative(target, leg.position);
-    let target_angle = arcs::core::atan2(v.y, v.x) + leg.angle_offset;
-    if target_angle >= NINETY {
+    if c.angle >= NINETY {
         LegSolved::Past(Side::Positive)
-    } else if target_angle <= -NINETY {
+    } else if c.angle <= -NINETY {
         LegSolved::Past(Side::Negative)
     } else {
-        LegSolved::Angles(solved_angles(v, target_angle, body, leg))
+        LegSolved::Angles(solved_angles(c, body, leg))
     }
 }
 
-// Six legs, in the source's order; the first that is past its limit decides.
+// Six legs, in the source's order; the first that is past its limit decides. All set out first, so
+// that their roots are taken side by side.
 pub fn calculate_ik(feet: Feet, config: Configuration) -> LegsSolved
     ensures { λ r. ⌜ r ≡ solved feet config ⌝ }
 {
     let body = config.body;
-    let left_front = match calculate_ik_for_leg(feet.left_front, body, config.left_front) {
+    let lf = set_out(feet.left_front, body, config.left_front);
+    let rf = set_out(feet.right_front, body, config.right_front);
+    let lm = set_out(feet.left_middle, body, config.left_middle);
+    let rm = set_out(feet.right_middle, body, config.right_middle);
+    let lr = set_out(feet.left_rear, body, config.left_rear);
+    let rr = set_out(feet.right_rear, body, config.right_rear);
+    let left_front = match calculate_ik_for_leg(lf, body, config.left_front) {
         LegSolved::Angles(angles) => angles,
         LegSolved::Past(side) => return LegsSolved::Past(0, side),
     };
-    let right_front = match calculate_ik_for_leg(feet.right_front, body, config.right_front) {
+    let right_front = match calculate_ik_for_leg(rf, body, config.right_front) {
         LegSolved::Angles(angles) => angles,
         LegSolved::Past(side) => return LegsSolved::Past(1, side),
     };
-    let left_middle = match calculate_ik_for_leg(feet.left_middle, body, config.left_middle) {
+    let left_middle = match calculate_ik_for_leg(lm, body, config.left_middle) {
         LegSolved::Angles(angles) => angles,
         LegSolved::Past(side) => return LegsSolved::Past(2, side),
     };
-    let right_middle = match calculate_ik_for_leg(feet.right_middle, body, config.right_middle) {
+    let right_middle = match calculate_ik_for_leg(rm, body, config.right_middle) {
         LegSolved::Angles(angles) => angles,
         LegSolved::Past(side) => return LegsSolved::Past(3, side),
     };
-    let left_rear = match calculate_ik_for_leg(feet.left_rear, body, config.left_rear) {
+    let left_rear = match calculate_ik_for_leg(lr, body, config.left_rear) {
         LegSolved::Angles(angles) => angles,
         LegSolved::Past(side) => return LegsSolved::Past(4, side),
     };
-    let right_rear = match calculate_ik_for_leg(feet.right_rear, body, config.right_rear) {
+    let right_rear = match calculate_ik_for_leg(rr, body, config.right_rear) {
         LegSolved::Angles(angles) => angles,
         LegSolved::Past(side) => return LegsSolved::Past(5, side),
     };
@@ -155,26 +183,52 @@ pub fn from_motor(motor: f32, correction: f32, offset: f32) -> f32
     numbers::core::absolute(motor - numbers::core::absolute(correction + offset))
 }
 
-// Where one foot stands at these motor angles.
-pub fn calculate_fk_for_leg(motors: LegAngles, body: Body, leg: LegConfiguration) -> Point
-    ensures { λ r. ⌜ r ≡ standing motors body leg ⌝ }
+// The sines and cosines that a foot's place is made from.
+pub struct Turns {
+    pub base: Turn,
+    pub femur: Turn,
+    pub tibia: Turn,
+}
+
+// Those of a leg at these motor angles.
+pub fn turns_of(motors: LegAngles, body: Body, leg: LegConfiguration) -> Turns
+    ensures { λ r. ⌜ TurnsOf motors body leg r ⌝ }
 {
     let femur_angle = from_motor(motors.femur, leg.femur_correction, body.femur_offset);
     let tibia_angle = from_motor(motors.tibia, leg.tibia_correction, body.tibia_offset);
-    let base_angle = motors.coxa - ONE_FIFTY - leg.angle_offset;
-    let base_x = sines::core::cosine(base_angle);
-    let base_y = sines::core::sine(base_angle);
     let femur_turn = femur_angle - NINETY;
-    let femur_x = sines::core::sine(femur_turn) * body.femur_length;
-    let femur_y = sines::core::cosine(femur_turn) * body.femur_length;
-    let tibia_turn = tibia_angle - (NINETY - femur_turn);
-    let tibia_x = sines::core::sine(tibia_turn) * body.tibia_length;
-    let tibia_y = sines::core::cosine(tibia_turn) * body.tibia_length;
+    let base = sines::core::sine_and_cosine(motors.coxa - ONE_FIFTY - leg.angle_offset);
+    let femur = sines::core::sine_and_cosine(femur_turn);
+    let tibia = sines::core::sine_and_cosine(tibia_angle - (NINETY - femur_turn));
+    Turns {
+        base: base,
+        femur: femur,
+        tibia: tibia,
+    }
+}
+
+// Where the foot of a leg with these turns stands.
+pub fn foot_of(t: Turns, body: Body, leg: LegConfiguration) -> Point
+    ensures { λ r. ⌜ ((m : LegAngles) → TurnsOf m body leg t → r ≡ standing m body leg) ⌝ }
+{
+    let base_x = t.base.cosine;
+    let base_y = t.base.sine;
+    let femur_x = t.femur.sine * body.femur_length;
+    let femur_y = t.femur.cosine * body.femur_length;
+    let tibia_x = t.tibia.sine * body.tibia_length;
+    let tibia_y = t.tibia.cosine * body.tibia_length;
     Point {
         x: leg.position.x + base_x * body.coxa_length + base_x * femur_y + base_x * tibia_x,
         y: leg.position.y + base_y * body.coxa_length + base_y * femur_y + base_y * tibia_x,
         z: leg.position.z + 0.0 * body.coxa_length + femur_x + -tibia_y,
     }
+}
+
+// Where one foot stands at these motor angles.
+pub fn calculate_fk_for_leg(motors: LegAngles, body: Body, leg: LegConfiguration) -> Point
+    ensures { λ r. ⌜ r ≡ standing motors body leg ⌝ }
+{
+    foot_of(turns_of(motors, body, leg), body, leg)
 }
 
 // Six feet, leg by leg.

@@ -127,23 +127,17 @@ pub fn selected_legs(feet: Feet, mask: u32) -> Selected
 pub fn updated(feet: Feet, row: [Point; 6], mask: u32) -> Feet
     ensures { λ r. ⌜ r ≡ updated feet row mask ⌝ }
 {
-    let left_front = mask / 1 % 2;
-    let right_front = mask / 8 % 2;
-    let left_middle = mask / 2 % 2;
-    let right_middle = mask / 16 % 2;
-    let left_rear = mask / 4 % 2;
-    let right_rear = mask / 32 % 2;
-    let second = left_front as usize;
-    let third = (left_front + right_front) as usize;
-    let fourth = (left_front + right_front + left_middle) as usize;
-    let fifth = (left_front + right_front + left_middle + right_middle) as usize;
-    let sixth = (left_front + right_front + left_middle + right_middle + left_rear) as usize;
+    let second = (mask / 1 % 2) as usize;
+    let third = second + (mask / 8 % 2) as usize;
+    let fourth = third + (mask / 2 % 2) as usize;
+    let fifth = fourth + (mask / 16 % 2) as usize;
+    let sixth = fifth + (mask / 4 % 2) as usize;
     Feet {
-        left_front: chosen(left_front == 1, row[0], feet.left_front),
-        left_middle: chosen(left_middle == 1, row[third], feet.left_middle),
-        left_rear: chosen(left_rear == 1, row[fifth], feet.left_rear),
-        right_front: chosen(right_front == 1, row[second], feet.right_front),
-        right_middle: chosen(right_middle == 1, row[fourth], feet.right_middle),
-        right_rear: chosen(right_rear == 1, row[sixth], feet.right_rear),
+        left_front: chosen(mask / 1 % 2 == 1, row[0], feet.left_front),
+        left_middle: chosen(mask / 2 % 2 == 1, row[third], feet.left_middle),
+        left_rear: chosen(mask / 4 % 2 == 1, row[fifth], feet.left_rear),
+        right_front: chosen(mask / 8 % 2 == 1, row[second], feet.right_front),
+        right_middle: chosen(mask / 16 % 2 == 1, row[fourth], feet.right_middle),
+        right_rear: chosen(mask / 32 % 2 == 1, row[sixth], feet.right_rear),
     }
 }

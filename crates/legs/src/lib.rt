@@ -97,10 +97,7 @@ pub fn merge_refused(a: Feet, b: Feet, mask: u32) -> u32
     let limit = numbers::limits::foot();
     let finite = core::feet_finite(a) & core::feet_finite(b);
     let permitted = core::feet_permitted(limit, a) & core::feet_permitted(limit, b);
-    door::either(
-        door::unless(finite, 1),
-        door::either(door::unless(permitted, 2), core::mask_refused(mask)),
-    )
+    door::first_of(finite, permitted, core::mask_refused(mask))
 }
 
 // Exactly the flagged legs from b, the others from a.
@@ -120,12 +117,10 @@ pub fn selected_refused(feet: Feet, mask: u32) -> u32
     ensures { λ r. ⌜ r ≡ selectRefusal feet mask ⌝ }
 {
     let limit = numbers::limits::foot();
-    door::either(
-        door::unless(core::feet_finite(feet), 1),
-        door::either(
-            door::unless(core::feet_permitted(limit, feet), 2),
-            core::mask_refused(mask),
-        ),
+    door::first_of(
+        core::feet_finite(feet),
+        core::feet_permitted(limit, feet),
+        core::mask_refused(mask),
     )
 }
 

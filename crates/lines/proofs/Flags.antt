@@ -1,8 +1,9 @@
 -- Both parts of a test that holds, and the two cases of one on numbers.
 use mathlib.Core.Path.{_≡_, refl}
 use mathlib.Core.Bool.{Bool, true, false, _&&_, false≢true}
-use mathlib.Core.Logic.{_⊎_, inl, inr}
-use Prim.Native.Nat.{ℕ, _≤_, _<_}
+use mathlib.Core.Logic.{_⊎_, inl, inr, ⊎-elim}
+use Prim.Native.Nat.{ℕ, zero, suc, _≤_, _<_, zero-le}
+use native.Mathlib.Nat.{le-antisymm}
 use lib.Dec.{ltb}
 use borrow.Author.Tests.{ltb-true, ltb-false}
 use Rattle.lines.specs.Digits.{choose}
@@ -26,3 +27,12 @@ lt-or-le m n = by-flag m n (ltb m n) refl
 pub chosen : {A : Type 0} (P : A → Type 0) (t : Bool) (x y : A) → (t ≡ true → P x) → (t ≡ false → P y) → P (choose t x y)
 chosen P true x y f g = f refl
 chosen P false x y f g = g refl
+
+-- a number that none of the arms 0 .. n - 1 of a match has
+abbrev pub Missed : ℕ → ℕ → Type 0
+Missed zero d = Unit
+Missed (suc n) d = Missed n d × (d ≡ n → ⊥)
+
+pub past : (n d : ℕ) → Missed n d → n ≤ d
+past zero d r = zero-le
+past (suc n) d r = let h : n ≤ d = past n d (r .0) in ⊎-elim (λ l. l) (λ l. absurd (r .1 (le-antisymm l h))) (lt-or-le n d)

@@ -13,8 +13,24 @@ ghost use Rattle.lines.specs.Lines.{walkWord};
 fn digit(n: u32) -> u8
     ensures { λ r. ⌜ r ≡ digit (n % 16) ⌝ }
 {
-    let d = (n % 16) as u8;
-    48 + d + (d + 6) / 16 * 39
+    match n % 16 {
+        0 => b'0',
+        1 => b'1',
+        2 => b'2',
+        3 => b'3',
+        4 => b'4',
+        5 => b'5',
+        6 => b'6',
+        7 => b'7',
+        8 => b'8',
+        9 => b'9',
+        10 => b'a',
+        11 => b'b',
+        12 => b'c',
+        13 => b'd',
+        14 => b'e',
+        _ => b'f',
+    }
 }
 
 // A letter and a tab.

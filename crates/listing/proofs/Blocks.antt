@@ -1,22 +1,23 @@
 -- A block's lines, one after the other, join to the block; what is left of a walk's block is that of document 01.
 use mathlib.Core.Path.{_≡_, refl, sym, ap, _∙_, subst}
 use mathlib.Core.Bool.{Bool, true, false, not, _&&_}
-use mathlib.Core.Logic.{_⊎_, inl, inr, ⊎-elim}
 use mathlib.Core.List.{List, [], _∷_, _++_, append-assoc, append-nil}
 use Prim.Native.Nat.{ℕ, zero, suc, _+_, _-_, _≤_, _<_}
 use native.Mathlib.Omega.{arith}
 use native.Mathlib.Numerals.{add-one}
-use lib.Dec.{eqb, ltb, leb}
-use lib.ListN.{length, getD}
-use lib.Ieee.{Float}
+use lib.Dec.{T, eqb, ltb, leb}
+use lib.ListN.{length}
+use lib.Ieee.{Float, binary32, ofBits, eq}
+use lib.Ieee.Bits.{is-true, is-false}
 use borrow.Author.Tests.{ltb-true, ltb-false, leb-false, ne-eqb}
 use Rattle.legs.specs.declared.Point.{Point}
+use Rattle.moves.specs.Distance.{Each, same}
 use Rattle.moves.specs.Moving.{moveTowards, pointOf}
-use Rattle.numbers.specs.Told.{Told, refused, given, answer}
 use Rattle.walks.specs.Walk.{pointAfter, Walk}
-use Rattle.walks.specs.Answers.{told, walkRefusal, Counts}
-use Rattle.walks.specs.declared.Walked.{Walked}
-use Rattle.walks.specs.declared.Walked.the-variants.{Count, Refused as WalkRefused}
+use Rattle.walks.specs.Answers.{walkRefusal}
+use Rattle.walks.proofs.Aim.{Fit}
+use Rattle.walks.proofs.Ends.{let-in-ends}
+use Rattle.walks.proofs.Table.{at-most-24577}
 use Rattle.lines.specs.Digits.{choose}
 use Rattle.lines.specs.Stored.{Stored}
 use Rattle.lines.specs.Lines.{written, hasRoom}
@@ -24,66 +25,10 @@ use Rattle.lines.specs.declared.listed.Line.{Line}
 use Rattle.lines.specs.declared.listed.Line.the-variants.{Arrived, Refused}
 use Rattle.lines.proofs.Stores.{stored-more, stored-as, stored-nothing}
 use Rattle.listing.specs.Listing.{step, steps, WalkPrints}
-use Rattle.listing.specs.Block.{endLine, left, textOf, stepped, ended, afterOf, lineOf, linesLeft, Part}
+use Rattle.listing.specs.Block.{endLine, mostSteps, movesOn, left, textOf, stepped, ended, afterOf, lineOf, linesLeft, Part}
 use Rattle.listing.specs.declared.block.Rest.{Rest}
 
--- what is left after j steps of the walk from s: the lines of the steps after them, and the last line
-pub left-walk : (m : Float) (s t : Point) (end : List ℕ) (d j : ℕ) → left m t end j d (pointAfter m s t j) ≡ steps m s t j d ++ end
-unfolding left steps pointAfter
-left-walk m s t end zero j = refl
-left-walk m s t end (suc d) j =
-    ap (λ (k : ℕ). written (step k (pointAfter m s t (suc j))) ++ left m t end k d (pointAfter m s t (suc j))) (add-one j)
-    ∙ ap (λ (r : List ℕ). written (step (suc j) (pointAfter m s t (suc j))) ++ r) (left-walk m s t end d (suc j))
-    ∙ sym (append-assoc (written (step (suc j) (pointAfter m s t (suc j)))) (steps m s t (suc j) d) end)
-
--- from the start
-pub walk-left : (m : Float) (s t : Point) (end : List ℕ) (n : ℕ) → left m t end 0 (n - 0) s ≡ steps m s t 0 n ++ end
-unfolding pointAfter
-walk-left m s t end n =
-    let e : n - 0 ≡ n = omega arith in
-    ap (λ (d : ℕ). left m t end 0 d s) e ∙ left-walk m s t end n 0
-
--- the next line and what is left after it
-module _ (r : Rest) (going : r .done ≡ false) where
-  abbrev end : List ℕ
-  end = written (endLine (r .count) (r .refused))
-
-  abbrev here : ℕ → List ℕ
-  here d = left (r .«max_move») (r .target) end (r .made) d (r .last)
-
-  goes-on : r .made < r .count → textOf r ≡ written (lineOf (stepped r)) ++ textOf (stepped r)
-  unfolding textOf lineOf left
-  goes-on more =
-      let e : r .count - r .made ≡ suc (r .count - (r .made + 1)) = omega arith in
-      rw going (ap here e)
-
-  ends : r .count ≤ r .made → textOf r ≡ written (lineOf (ended r)) ++ textOf (ended r)
-  unfolding textOf lineOf left
-  ends none =
-      let e : r .count - r .made ≡ zero = omega arith in
-      rw going (ap here e ∙ sym (append-nil end))
-
-  by-test : (b : Bool) → ltb (r .made) (r .count) ≡ b → textOf r ≡ written (lineOf (choose b (stepped r) (ended r))) ++ textOf (choose b (stepped r) (ended r))
-  by-test true e = goes-on (ltb-true (r .made) (r .count) e)
-  by-test false e = ends (ltb-false (r .made) (r .count) e)
-
-  pub next-line : textOf r ≡ written (lineOf (afterOf r)) ++ textOf (afterOf r)
-  unfolding afterOf
-  next-line = by-test (ltb (r .made) (r .count)) refl
-
-  fewer-by : (b : Bool) → ltb (r .made) (r .count) ≡ b → linesLeft (choose b (stepped r) (ended r)) < linesLeft r
-  unfolding linesLeft
-  fewer-by true e = let h : r .made < r .count = ltb-true (r .made) (r .count) e in rw going (omega arith)
-  fewer-by false e = rw going (omega arith)
-
-  pub fewer : linesLeft (afterOf r) < linesLeft r
-  unfolding afterOf
-  fewer = fewer-by (ltb (r .made) (r .count)) refl
-
-pub fewer-after : (r q : Rest) → r .done ≡ false → q ≡ afterOf r → linesLeft q < linesLeft r
-fewer-after r q going is = subst (λ (p : Rest). linesLeft p < linesLeft r) (sym is) (fewer r going)
-
--- a line is left, and fits
+-- of two tests, that the first fails and the second holds
 pub is-going : (d b : Bool) → (not d && b) ≡ true → d ≡ false
 is-going true b e = cc
 is-going false b e = refl
@@ -91,6 +36,110 @@ is-going false b e = refl
 pub is-fit : (d b : Bool) → (not d && b) ≡ true → b ≡ true
 is-fit true b e = cc
 is-fit false b e = e
+
+-- at the target, and where no step may follow, the last line is left
+at-target : (m : Float) (t : Point) (refused k d : ℕ) (l : Point) → same l t ≡ true → left m t refused k d l ≡ written (endLine k refused)
+unfolding left
+at-target m t refused k zero l e = refl
+at-target m t refused k (suc d) l e = rw e
+
+-- so where nothing is to be gone
+abbrev nowhere : Point
+nowhere = record { x = ofBits binary32 0; y = ofBits binary32 0; z = ofBits binary32 0 }
+
+pub nowhere-left : (refused d : ℕ) → left (ofBits binary32 0) nowhere refused 0 d nowhere ≡ written (endLine 0 refused)
+unfolding same eq ofBits
+nowhere-left refused d = at-target (ofBits binary32 0) nowhere refused 0 d nowhere refl
+
+-- elsewhere the line of the next step comes first
+elsewhere : (m : Float) (t : Point) (refused k d : ℕ) (l : Point) → same l t ≡ false
+    → left m t refused k (suc d) l ≡ written (step (k + 1) (pointOf (moveTowards l t m))) ++ left m t refused (k + 1) d (pointOf (moveTowards l t m))
+unfolding left
+elsewhere m t refused k d l e = rw e
+
+-- what is left after j of the n steps of a walk from s: the lines of the i steps after them, and the last line
+module _ (m : Float) (s t : Point) (n : ℕ) (w : Walk m s t n) where
+  at-end : (j d : ℕ) → j ≡ n → left m t 0 j d (pointAfter m s t j) ≡ written (Arrived n)
+  at-end j d e =
+      at-target m t 0 j d (pointAfter m s t j) (is-true (same (pointAfter m s t j) t) (subst (λ (k : ℕ). T (same (pointAfter m s t k) t)) (sym e) (w .arrives)))
+      ∙ ap (λ (k : ℕ). written (Arrived k)) e
+
+  left-walk : (i j d : ℕ) → j + i ≡ n → i ≤ d → left m t 0 j d (pointAfter m s t j) ≡ steps m s t j i ++ written (Arrived n)
+  unfolding steps pointAfter
+  left-walk zero j d e h = at-end j d (none e)
+    where
+      none : j + 0 ≡ n → j ≡ n
+      none e = omega arith
+  left-walk (suc i) j zero e h = absurd (none h)
+    where
+      none : suc i ≤ 0 → ⊥
+      none h = omega arith
+  left-walk (suc i) j (suc d) e h =
+      let p = pointAfter m s t (suc j) in
+      let here : j < n = omega arith in
+      let there : suc j + i ≡ n = omega arith in
+      let fewer : i ≤ d = omega arith in
+      elsewhere m t 0 j d (pointAfter m s t j) (is-false (same (pointAfter m s t j) t) (w .least j here))
+      ∙ ap (λ (k : ℕ). written (step k p) ++ left m t 0 k d p) (add-one j)
+      ∙ ap (λ (r : List ℕ). written (step (suc j) p) ++ r) (left-walk i (suc j) d there fewer)
+      ∙ sym (append-assoc (written (step (suc j) p)) (steps m s t (suc j) i) (written (Arrived n)))
+
+  -- from the start
+  walk-left : n ≤ mostSteps → left m t 0 0 (mostSteps - 0) s ≡ steps m s t 0 n ++ written (Arrived n)
+  unfolding pointAfter
+  walk-left h =
+      let all : 0 + n ≡ n = omega arith in
+      let most : n ≤ mostSteps - 0 = omega arith in
+      left-walk n 0 (mostSteps - 0) all most
+
+-- the next line and what is left after it
+module _ (r : Rest) (going : r .done ≡ false) where
+  abbrev here : ℕ → List ℕ
+  here d = left (r .«max_move») (r .target) (r .refused) (r .made) d (r .last)
+
+  goes-on : same (r .last) (r .target) ≡ false → r .made < mostSteps → textOf r ≡ written (lineOf (stepped r)) ++ textOf (stepped r)
+  unfolding textOf lineOf
+  goes-on away more =
+      let e : mostSteps - r .made ≡ suc (mostSteps - (r .made + 1)) = omega arith in
+      rw going (ap here e ∙ elsewhere (r .«max_move») (r .target) (r .refused) (r .made) (mostSteps - (r .made + 1)) (r .last) away)
+
+  ends : here (mostSteps - r .made) ≡ written (endLine (r .made) (r .refused)) → textOf r ≡ written (lineOf (ended r)) ++ textOf (ended r)
+  unfolding textOf lineOf
+  ends e = rw going (e ∙ sym (append-nil (written (endLine (r .made) (r .refused)))))
+
+  full : mostSteps ≤ r .made → here (mostSteps - r .made) ≡ written (endLine (r .made) (r .refused))
+  unfolding left
+  full none =
+      let e : mostSteps - r .made ≡ zero = omega arith in
+      ap here e
+
+  by-tests : (a b : Bool) → same (r .last) (r .target) ≡ a → ltb (r .made) mostSteps ≡ b
+      → textOf r ≡ written (lineOf (choose (not a && b) (stepped r) (ended r))) ++ textOf (choose (not a && b) (stepped r) (ended r))
+  by-tests true b d e = ends (at-target (r .«max_move») (r .target) (r .refused) (r .made) (mostSteps - r .made) (r .last) d)
+  by-tests false true d e = goes-on d (ltb-true (r .made) mostSteps e)
+  by-tests false false d e = ends (full (ltb-false (r .made) mostSteps e))
+
+  pub next-line : textOf r ≡ written (lineOf (afterOf r)) ++ textOf (afterOf r)
+  unfolding afterOf movesOn
+  next-line = by-tests (same (r .last) (r .target)) (ltb (r .made) mostSteps) refl refl
+
+  fewer-by : (a b : Bool) → ltb (r .made) mostSteps ≡ b → linesLeft (choose (a && b) (stepped r) (ended r)) < linesLeft r
+  unfolding linesLeft
+  fewer-by true true e = let h : r .made < mostSteps = ltb-true (r .made) mostSteps e in rw going (omega arith)
+  fewer-by true false e = rw going (omega arith)
+  fewer-by false b e = rw going (omega arith)
+
+  pub fewer : linesLeft (afterOf r) < linesLeft r
+  unfolding afterOf movesOn
+  fewer = fewer-by (not (same (r .last) (r .target))) (ltb (r .made) mostSteps) refl
+
+-- a step that follows has a number of five digits
+pub made-fits : (l t : Point) (k : ℕ) → movesOn l t k ≡ true → k + 1 < 4294967296
+unfolding movesOn mostSteps
+made-fits l t k e = let h : k < 24577 = ltb-true k 24577 (is-fit (same l t) (ltb k 24577) e) in omega arith
+
+pub fewer-after : (r q : Rest) → r .done ≡ false → q ≡ afterOf r → linesLeft q < linesLeft r
+fewer-after r q going is = subst (λ (p : Rest). linesLeft p < linesLeft r) (sym is) (fewer r going)
 
 -- nothing is stored yet
 pub part-none : (l : List ℕ) (at : ℕ) (whole : List ℕ) → Part l at whole at whole l
@@ -110,56 +159,31 @@ part-more {l} {l′} {l″} {at} {k} {k′} {whole} r q x p going room is line s
           ∙ sym (append-assoc (p .text) (written x) (textOf q));
     }
 
--- ---- what the walk's answer says: a count of the walk, or the number by which it is refused
-refuses : (n : ℕ) (u : Told) → answer (suc n) u ≡ refused (suc n)
-refuses n u = rw (ne-eqb (suc n) 0 (λ e. above e))
-  where
-    above : suc n ≡ 0 → ⊥
-    above e = omega arith
-
-module _ (P : ℕ → Type 0) (n : ℕ) where
-  count-was : (R : ℕ) → Counts R P (told (Count n)) → (R ≡ 0) × P n
-  count-was zero c =
-      let e : n ∷ [] ≡ c .0 ∷ [] = ap (λ (u : Told). u .marks) (c .1) in
-      (refl, subst P (sym (ap (λ (l : List ℕ). getD l 0 0) e)) (c .2 refl))
-  count-was (suc i) c =
-      let e : _≡_ {A = ℕ} 1 0 = ap (λ (u : Told). length (u .marks)) (c .1 ∙ refuses i (given (c .0 ∷ []) [])) in absurd (omega arith)
-
-  number-was : (R : ℕ) → Counts R P (told (WalkRefused n)) → (R ≡ n) × (0 < n)
-  number-was zero c =
-      let e : _≡_ {A = ℕ} 0 1 = ap (λ (u : Told). length (u .marks)) (c .1) in absurd (omega arith)
-  number-was (suc i) c =
-      let e : n ≡ suc i = ap (λ (u : Told). u .number) (c .1 ∙ refuses i (given (c .0 ∷ []) [])) in
-      (sym e, omega arith)
-
 -- ---- the block of a walk, and of one that is refused
-abbrev begins : Float → Point → Point → ℕ → Rest
-begins m s t n = record { «max_move» = m; last = s; target = t; made = 0; count = n; refused = 0; done = false }
+abbrev begins : Float → Point → Point → Rest
+begins m s t = record { «max_move» = m; last = s; target = t; made = 0; refused = 0; done = false }
 
-given-walk : (m : Float) (s t : Point) (n : ℕ) → (walkRefusal m s t ≡ 0) × Walk m s t n → WalkPrints m s t (textOf (begins m s t n))
-unfolding textOf
-given-walk m s t n w = (n, rw (w .0) (walk-left m s t (written (Arrived n)) n), λ e. w .1)
+given-walk : (m : Float) (s t : Point) → Fit m → Each Fit s → Each Fit t → walkRefusal m s t ≡ 0 → WalkPrints m s t (textOf (begins m s t))
+unfolding textOf mostSteps
+given-walk m s t Fm Fs Ft e =
+    let w = let-in-ends m s t Fm Fs Ft e in
+    (w .0, rw e (walk-left m s t (w .0) (w .1) (at-most-24577 m s t Fm Fs Ft e (w .0) (w .1))), λ z. w .1)
 
-refused-walk : (m : Float) (s t : Point) (n : ℕ) (text : List ℕ) → (walkRefusal m s t ≡ n) × (0 < n) → text ≡ written (endLine 0 n) → WalkPrints m s t text
-refused-walk m s t n text w e =
-    let some : eqb n 0 ≡ false = ne-eqb n 0 (λ z. none z (w .1)) in
-    (0, rw (w .0, some) (e ∙ ap (λ (b : Bool). written (choose b (Arrived 0) (Refused n))) some), λ z. absurd (none (sym (w .0) ∙ z) (w .1)))
-  where
-    none : {k : ℕ} → k ≡ 0 → 0 < k → ⊥
-    none {k} e h = omega arith
+refused-walk : (m : Float) (s t : Point) (n : ℕ) (text : List ℕ) → walkRefusal m s t ≡ n → (n ≡ 0 → ⊥) → text ≡ written (endLine 0 n) → WalkPrints m s t text
+refused-walk m s t n text r some e =
+    let b : eqb n 0 ≡ false = ne-eqb n 0 some in
+    (0, rw (r, b) (e ∙ ap (λ (a : Bool). written (choose a (Arrived 0) (Refused n))) b), λ z. absurd (some (sym r ∙ z)))
 
-module _ (m : Float) (s t s′ t′ : Point) (a : Walked) (n : ℕ) where
-  pub walk-printed : s′ ≡ s → t′ ≡ t → a ≡ Count n → Counts (walkRefusal m s′ t′) (Walk m s′ t′) (told a) → WalkPrints m s t (textOf (begins m s′ t′ n))
-  walk-printed es et ea c =
-      subst (λ (p : Point). WalkPrints m p t (textOf (begins m s′ t′ n))) es
-      (subst (λ (p : Point). WalkPrints m s′ p (textOf (begins m s′ t′ n))) et
-      (given-walk m s′ t′ n (count-was (Walk m s′ t′) n (walkRefusal m s′ t′) (subst (λ (b : Walked). Counts (walkRefusal m s′ t′) (Walk m s′ t′) (told b)) ea c))))
+-- between the record's points and their copies
+module _ (m : Float) (s t s′ t′ : Point) (es : s′ ≡ s) (et : t′ ≡ t) where
+  same-walk : (text : List ℕ) → WalkPrints m s′ t′ text → WalkPrints m s t text
+  same-walk text w = subst (λ (p : Point). WalkPrints m p t text) es (subst (λ (p : Point). WalkPrints m s′ p text) et w)
 
-  pub refusal-printed : (text : List ℕ) → s′ ≡ s → t′ ≡ t → a ≡ WalkRefused n → Counts (walkRefusal m s′ t′) (Walk m s′ t′) (told a) → text ≡ written (endLine 0 n) → WalkPrints m s t text
-  refusal-printed text es et ea c e =
-      subst (λ (p : Point). WalkPrints m p t text) es
-      (subst (λ (p : Point). WalkPrints m s′ p text) et
-      (refused-walk m s′ t′ n text (number-was (Walk m s′ t′) n (walkRefusal m s′ t′) (subst (λ (b : Walked). Counts (walkRefusal m s′ t′) (Walk m s′ t′) (told b)) ea c)) e))
+  pub walk-printed : Fit m → Each Fit s′ → Each Fit t′ → walkRefusal m s′ t′ ≡ 0 → WalkPrints m s t (textOf (begins m s′ t′))
+  walk-printed Fm Fs Ft e = same-walk (textOf (begins m s′ t′)) (given-walk m s′ t′ Fm Fs Ft e)
+
+  pub refusal-printed : (n : ℕ) (text : List ℕ) → walkRefusal m s′ t′ ≡ n → (n ≡ 0 → ⊥) → text ≡ written (endLine 0 n) → WalkPrints m s t text
+  refusal-printed n text r some e = same-walk text (refused-walk m s′ t′ n text r some e)
 
 -- ---- parts written one after the other: with nothing left, they join to the block
 pub done-text : (r : Rest) → r .done ≡ true → textOf r ≡ []

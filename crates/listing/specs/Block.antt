@@ -1,11 +1,12 @@
 -- How ours prints a block: what is left of it, the line that comes next, and the part of it that a buffer takes.
 use Prim.Native.Nat.{ℕ, zero, suc, _+_, _-_}
 use mathlib.Core.Path.{_≡_}
-use mathlib.Core.Bool.{Bool, true, false}
+use mathlib.Core.Bool.{Bool, true, false, not, _&&_}
 use mathlib.Core.List.{List, [], _∷_, _++_}
 use lib.Dec.{eqb, ltb}
 use lib.Ieee.{Float}
 use Rattle.legs.specs.declared.Point.{Point}
+use Rattle.moves.specs.Distance.{same}
 use Rattle.moves.specs.Moving.{moveTowards, pointOf}
 use Rattle.lines.specs.Digits.{choose}
 use Rattle.lines.specs.Stored.{Stored}
@@ -19,15 +20,23 @@ use Rattle.listing.specs.declared.block.Rest.{Rest}
 abbrev pub endLine : ℕ → ℕ → Line
 endLine count refused = choose (eqb refused 0) (Arrived count) (Refused refused)
 
--- d steps more, the first of them the one after k, from l on; then the last line
-unfoldable pub left : Float → Point → List ℕ → ℕ → ℕ → Point → List ℕ
-left m t end k zero l = end
-left m t end k (suc d) l = written (step (k + 1) (pointOf (moveTowards l t m))) ++ left m t end (k + 1) d (pointOf (moveTowards l t m))
+-- the most steps that a block shows: no walk within document 01's table has more
+unfoldable pub mostSteps : ℕ
+mostSteps = 24577
+
+-- whether another step follows, after k of them, at l
+unfoldable pub movesOn : Point → Point → ℕ → Bool
+movesOn l t k = not (same l t) && ltb k mostSteps
+
+-- at most d steps more, from l on, until it is at the target, the first of them the one after k; then the last line: the count, or the number of a refusal
+unfoldable pub left : Float → Point → ℕ → ℕ → ℕ → Point → List ℕ
+left m t refused k zero l = written (endLine k refused)
+left m t refused k (suc d) l =
+    choose (same l t) (written (endLine k refused))
+    (written (step (k + 1) (pointOf (moveTowards l t m))) ++ left m t refused (k + 1) d (pointOf (moveTowards l t m)))
 
 unfoldable pub textOf : Rest → List ℕ
-textOf r =
-    choose (r .done) []
-    (left (r .«max_move») (r .target) (written (endLine (r .count) (r .refused))) (r .made) (r .count - r .made) (r .last))
+textOf r = choose (r .done) [] (left (r .«max_move») (r .target) (r .refused) (r .made) (mostSteps - r .made) (r .last))
 
 -- after the next line
 abbrev pub stepped : Rest → Rest
@@ -36,7 +45,6 @@ stepped r = record {
   last = pointOf (moveTowards (r .last) (r .target) (r .«max_move»));
   target = r .target;
   made = r .made + 1;
-  count = r .count;
   refused = r .refused;
   done = false;
 }
@@ -47,21 +55,20 @@ ended r = record {
   last = r .last;
   target = r .target;
   made = r .made;
-  count = r .count;
   refused = r .refused;
   done = true;
 }
 
 unfoldable pub afterOf : Rest → Rest
-afterOf r = choose (ltb (r .made) (r .count)) (stepped r) (ended r)
+afterOf r = choose (movesOn (r .last) (r .target) (r .made)) (stepped r) (ended r)
 
 -- the line that has led to a state
 unfoldable pub lineOf : Rest → Line
-lineOf r = choose (r .done) (endLine (r .count) (r .refused)) (step (r .made) (r .last))
+lineOf r = choose (r .done) (endLine (r .made) (r .refused)) (step (r .made) (r .last))
 
--- how many lines are left
+-- how many lines are left at most
 unfoldable pub linesLeft : Rest → ℕ
-linesLeft r = choose (r .done) 0 (suc (r .count - r .made))
+linesLeft r = choose (r .done) 0 (suc (mostSteps - r .made))
 
 -- a part of a text, stored from a place on, and what is left of it
 pub record Part (before : List ℕ) (at : ℕ) (whole : List ℕ) (next : ℕ) (rest : List ℕ) (after : List ℕ) : Type 0 where

@@ -7,7 +7,6 @@ use lines::record;
 use lines::record::Asked;
 use lines::record::Place;
 use lines::record::Walk;
-use walks::Walked;
 ghost use mathlib.Core.Path.{_≡_};
 ghost use mathlib.Core.Bool.{false, not, _&&_};
 ghost use Prim.Native.Nat.{_+_};
@@ -18,16 +17,15 @@ ghost use Rattle.lines.specs.Stored.{Stored};
 ghost use Rattle.lines.specs.Lines.{written, hasRoom};
 ghost use Rattle.lines.specs.declared.listed.Line.the-variants.{Header};
 ghost use Rattle.listing.specs.Listing.{pointAt, step, WalkPrints, Prints};
-ghost use Rattle.listing.specs.Block.{endLine, textOf, afterOf, lineOf, Part};
+ghost use Rattle.listing.specs.Block.{endLine, textOf, movesOn, afterOf, lineOf, Part};
 
-// What is left of a block: after `made` of `count` steps the walk stands at `last`; at the end `A` and the count, or
+// What is left of a block: after `made` steps the walk stands at `last`; once it is at `target`, `A` and the count, or
 // where `refused` is not 0, `R` and that number. Then it is done.
 pub struct Rest {
     pub max_move: f32,
     pub last: Point,
     pub target: Point,
     pub made: u32,
-    pub count: u32,
     pub refused: u32,
     pub done: bool,
 }
@@ -62,29 +60,29 @@ fn refusal(number: u32) -> Rest
         last: nowhere,
         target: nowhere,
         made: 0,
-        count: 0,
         refused: number,
         done: false,
     }
 }
 
-// The block of a walk.
+// The block of a walk. How many steps it has shows as it is gone.
 fn walk(w: Walk) -> Rest
     ensures { λ r. ⌜ WalkPrints (w .«max_move») (pointAt (w .start)) (pointAt (w .target)) (textOf r) ⌝ }
 {
     let start = point_of(w.start);
     let target = point_of(w.target);
-    match walks::walk(w.max_move, start, target) {
-        Walked::Count(n) => Rest {
+    let n = walks::walk_refused(w.max_move, start, target);
+    if n == 0 {
+        Rest {
             max_move: w.max_move,
             last: start,
             target: target,
             made: 0,
-            count: n,
             refused: 0,
             done: false,
-        },
-        Walked::Refused(n) => refusal(n),
+        }
+    } else {
+        refusal(n)
     }
 }
 
@@ -98,19 +96,29 @@ pub fn whole(a: Asked) -> Rest
     }
 }
 
+// Whether another step follows. No walk that is not refused has more than 24,577.
+fn moves_on(last: Point, target: Point, made: u32) -> bool
+    ensures { λ r. ⌜ r ≡ movesOn last target made ⌝ }
+{
+    if moves::core::is_same(last, target) {
+        return false;
+    }
+    made < 24577
+}
+
 // After the next line of the block.
 fn after(r: Rest) -> Rest
     ensures { λ q. ⌜ q ≡ afterOf r ⌝ }
 {
-    if r.made < r.count {
-        let target = r.target;
-        let step = moves::core::move_towards(r.last, target, r.max_move);
+    let last = r.last;
+    let target = r.target;
+    if moves_on(last, target, r.made) {
+        let step = moves::core::move_towards(last, target, r.max_move);
         Rest {
             max_move: r.max_move,
             last: moves::core::point_of(step),
             target: target,
             made: r.made + 1,
-            count: r.count,
             refused: r.refused,
             done: false,
         }
@@ -149,7 +157,7 @@ fn line(r: Rest) -> Line
     ensures { λ l. ⌜ l ≡ lineOf r ⌝ }
 {
     if r.done {
-        end_line(r.count, r.refused)
+        end_line(r.made, r.refused)
     } else {
         step_line(r.made, r.last)
     }

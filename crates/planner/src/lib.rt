@@ -23,12 +23,10 @@ pub fn plan_refused(start: Feet, relaxed: Feet, command: MoveCommand) -> u32
     let permitted = legs::core::feet_permitted(limit, start)
         & legs::core::feet_permitted(limit, relaxed)
         & commands::core::command_permitted(command);
-    door::either(
-        door::unless(finite, 1),
-        door::either(
-            door::unless(permitted, 2),
-            door::unless(commands::core::is_period(command.step_time), 3),
-        ),
+    door::first_of(
+        finite,
+        permitted,
+        door::unless(commands::core::is_period(command.step_time), 3),
     )
 }
 

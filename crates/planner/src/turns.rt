@@ -9,8 +9,9 @@ ghost use Rattle.planner.specs.How.{appliedFeet};
 pub fn turn(angle: f32) -> [[f32; 3]; 3]
     ensures { λ r. ⌜ r ≡ turn angle ⌝ }
 {
-    let c = sines::core::cosine(angle);
-    let s = sines::core::sine(angle);
+    let both = sines::core::sine_and_cosine(angle);
+    let c = both.cosine;
+    let s = both.sine;
     [[c, 0.0 - s, 0.0], [s, c, 0.0], [0.0, 0.0, 1.0]]
 }
 

@@ -36,7 +36,7 @@ Parts n = (m : ℕ) × (p : ℕ) × Lifted n m p
 
 parts-of : (x t : ℕ) → t < 8388608 → x < 255 → (x ≡ 0 → 0 < t) → Parts (valOf x t)
 parts-of zero t h k n = (t * 2 ^ (24 - size t), 149 - (24 - size t), lift-exists t (n refl) h)
-parts-of (suc x) t h k n = (t + 8388608, 148 + suc x, field-more (suc x) t h k (λ (e : suc x ≡ 0). no x e))
+parts-of (suc x) t h k n = (8388608 + t, 148 + suc x, field-more (suc x) t h k (λ (e : suc x ≡ 0). no x e))
   where
     no : (y : ℕ) → suc y ≡ 0 → ⊥
     no y e = omega arith

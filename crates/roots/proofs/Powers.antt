@@ -49,6 +49,13 @@ zeros t p h =
     pow-lt-back : (i k : ℕ) → 2 ^ i < 2 ^ k → i < k
     pow-lt-back i k g = lt-of-not-le (λ (u : k ≤ i). not-le-of-lt g (pow-mono u))
 
+-- the leading one is put before the others anew
+pub one-before : (t s k p : ℕ) → Lifted t s p → Lifted t (8388608 + (s + k * 8388608) % 8388608) p
+one-before t s k p l = subst (λ (y : ℕ). Lifted t y p) (same s k (l .m-low) (l .m-high)) l
+  where
+    same : (s k : ℕ) → 8388608 ≤ s → s < 16777216 → s ≡ 8388608 + (s + k * 8388608) % 8388608
+    same s k a b = omega arith
+
 -- ---- `radicand`
 pub even : (m p : ℕ) → 8388608 ≤ m → m < 16777216 → p % 2 ≡ 1 → Even m p (m * 8388608)
 even m p l h o =
@@ -82,16 +89,17 @@ uneven m p l h n =
     half p o k = omega arith
 
 -- ---- `spread`
-pub field-zero : (x t m p : ℕ) → x ≡ 0 → Lifted t m p → Lifted (valOf x t) m p
-field-zero x t m p e l = subst (λ (y : ℕ). Lifted (valOf y t) m p) (sym e) l
+pub field-zero : (b m p : ℕ) → b / 8388608 ≡ 0 → Lifted b m p → Lifted (valOf (b / 8388608) (b % 8388608)) m p
+field-zero b m p e l =
+    let same : b ≡ b % 8388608 = omega arith in
+    subst (λ (y : ℕ). Lifted (valOf y (b % 8388608)) m p) (sym e) (subst (λ (y : ℕ). Lifted y m p) same l)
 
-pub field-more : (x t : ℕ) → t < 8388608 → x < 255 → (x ≡ 0 → ⊥) → Lifted (valOf x t) (t + 8388608) (148 + x)
+pub field-more : (x t : ℕ) → t < 8388608 → x < 255 → (x ≡ 0 → ⊥) → Lifted (valOf x t) (8388608 + t) (148 + x)
 field-more zero t h k n = absurd (n refl)
 field-more (suc x) t h k n =
     let e : 148 + suc x ≡ x + 149 = omega arith in
-    let a : 8388608 + t ≡ t + 8388608 = omega arith in
     record {
-      same = mul-assoc (8388608 + t) (2 ^ x) (2 ^ 149) ∙ ap (λ (y : ℕ). (8388608 + t) * y) (sym (pow-add 2 x 149) ∙ ap (λ (y : ℕ). 2 ^ y) (sym e)) ∙ ap (λ (y : ℕ). y * 2 ^ (148 + suc x)) a;
+      same = mul-assoc (8388608 + t) (2 ^ x) (2 ^ 149) ∙ ap (λ (y : ℕ). (8388608 + t) * y) (sym (pow-add 2 x 149) ∙ ap (λ (y : ℕ). 2 ^ y) (sym e));
       m-low = omega arith;
       m-high = omega arith;
       p-low = omega arith;

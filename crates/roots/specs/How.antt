@@ -46,16 +46,15 @@ pub record Even (m p r : ℕ) : Type 0 where
 abbrev pub place : ℕ → ℕ
 place half = (128 + half + (half - 128)) * 2 ^ 55
 
--- A row tells the root at its start, its middle and its end, each by the nearest whole number: where it starts, how far it rises to the end, and how far the
--- middle lies above the chord, times four. A row that starts at 0 is none.
-pub record AlongRoot (t start rise bend : ℕ) : Type 0 where
-  pub start-high : start ≤ 4294967296
-  pub rise-high : rise ≤ 33554432
-  pub bend-high : bend ≤ 131072
+-- A row tells the root at its start, its middle and its end, each by the nearest whole number: where it starts, its slope there, for the whole row, and by how
+-- much its end lies below that slope. A row that starts at 0 is none.
+pub record AlongRoot (t start slope bend : ℕ) : Type 0 where
+  pub slope-high : slope ≤ 33554432
+  pub bend-high : bend ≤ slope
   pub start-low : sq (2 * start - 1) ≤ 4 * place (2 * t)
   pub start-up : 0 < start → 4 * place (2 * t) ≤ sq (2 * start + 1)
-  pub middle-whole : (2 * rise + bend) % 4 ≡ 0
-  pub middle-low : sq (2 * ((4 * start + 2 * rise + bend) / 4) - 1) ≤ 4 * place (2 * t + 1)
-  pub middle-up : 0 < start → 4 * place (2 * t + 1) ≤ sq (2 * ((4 * start + 2 * rise + bend) / 4) + 1)
-  pub end-low : sq (2 * (start + rise) - 1) ≤ 4 * place (2 * t + 2)
-  pub end-up : 0 < start → 4 * place (2 * t + 2) ≤ sq (2 * (start + rise) + 1)
+  pub middle-whole : (2 * slope - bend) % 4 ≡ 0
+  pub middle-low : sq (2 * (start + (2 * slope - bend) / 4) - 1) ≤ 4 * place (2 * t + 1)
+  pub middle-up : 0 < start → 4 * place (2 * t + 1) ≤ sq (2 * (start + (2 * slope - bend) / 4) + 1)
+  pub end-low : sq (2 * (start + slope - bend) - 1) ≤ 4 * place (2 * t + 2)
+  pub end-up : 0 < start → 4 * place (2 * t + 2) ≤ sq (2 * (start + slope - bend) + 1)

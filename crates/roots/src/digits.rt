@@ -1,43 +1,41 @@
 // The root of a bit pattern by whole numbers: no float is computed with.
 use crate::seed;
 ghost use mathlib.Core.Path.{_≡_};
-ghost use Prim.Native.Nat.{_+_, _*_, _^_, _≤_, _<_};
+ghost use Prim.Native.Nat.{_+_, _*_, _%_, _^_, _≤_, _<_};
 ghost use lib.Ieee.{binary32, ofBits};
 ghost use Rattle.units.specs.Patterns.{val};
 ghost use Rattle.roots.specs.How.{Lifted, Even, nearestRoot};
 
-// A number above zero as 24 digits m and a power of two p.
+// A number above zero by its digits and a power of two p: the last 23 digits are the last 23 of c, a
+// leading one before them. The one before those in c is odd where p is.
 pub struct Parts {
-    pub m: u64,
+    pub c: u32,
     pub p: u32,
 }
 
 // A subnormal number's digits, moved up until there are 24.
 fn lift(t: u32) -> Parts
     requires { ⌜ (0 < t) × (t < 8388608) ⌝ }
-    ensures { λ r. ⌜ Lifted t (r .m) (r .p) ⌝ }
+    ensures { λ r. ⌜ Lifted t (8388608 + r .c % 8388608) (r .p) ⌝ }
 {
     let z = u32::leading_zeros(t) - 8;
+    let p = 149 - z;
     Parts {
-        m: (t << z) as u64,
-        p: 149 - z,
+        c: (t << z) + (p + 1) % 2 * 8388608,
+        p: p,
     }
 }
 
-// The number of a bit pattern, as 24 digits and a power of two.
+// The number of a bit pattern. A normal number's pattern has its digits, and 148 more is its power.
 fn spread(b: u32) -> Parts
     requires { ⌜ (0 < b) × (b < 2139095040) ⌝ }
-    ensures { λ r. ⌜ Lifted (val b) (r .m) (r .p) ⌝ }
+    ensures { λ r. ⌜ Lifted (val b) (8388608 + r .c % 8388608) (r .p) ⌝ }
 {
     let e = b / 8388608;
-    let t = b % 8388608;
     if e == 0 {
-        lift(t)
+        lift(b)
     } else {
-        Parts {
-            m: t as u64 + 8388608,
-            p: 148 + e,
-        }
+        Parts { c: b, p: 148 + e }
     }
 }
 
@@ -87,7 +85,7 @@ pub fn root_bits(b: u32) -> u32
     ensures { λ r. ⌜ (r < 2139095040) × (ofBits binary32 r ≡ nearestRoot (val b)) ⌝ }
 {
     let x = spread(b);
-    let n = radicand(x.m, x.p);
-    let q = settle(n, seed::guess(x.m, x.p));
+    let n = radicand((8388608 + x.c % 8388608) as u64, x.p);
+    let q = settle(n, seed::guess(x.c / 131072 % 128, x.c % 131072));
     (x.p - 23) / 2 * 8388608 + q as u32
 }

@@ -78,10 +78,7 @@ fn refused(feet: Feet, seen: Seen, n: usize, mask: u32) -> u32
     let permitted = legs::core::feet_permitted(limit, feet) & seen.permitted;
     let above = legs::core::mask_refused(mask);
     let differs = count_refused(n, mask);
-    door::either(
-        door::unless(finite, 1),
-        door::either(door::unless(permitted, 2), door::either(above, differs)),
-    )
+    door::first_of(finite, permitted, door::either(above, differs))
 }
 
 // The answer to an update by n points, once all are read.

@@ -15,7 +15,7 @@ use Rattle.series.proofs.Tables.{both, both-l, both-r, every, at}
 use Rattle.series.proofs.Polynomials.{eval, spread, ev-spread}
 use Rattle.series.proofs.NearestTables.{nearest, nearest-le, sineTable, cosineTable, sine-nearest, cosine-nearest}
 use Rattle.series.proofs.Addition.{fsp, fsm, fcp, fcm, FD, FD-eighths, K, at-eighths}
-use Rattle.sines.specs.How.{sineEntry, cosineEntry, pairEntry}
+use Rattle.sines.specs.How.{sineEntry, cosineEntry, pairEntry, PartsOf, sineSum, cosineSum, fixedSine, fixedCosine}
 
 -- f i, f (i + 1), .., so many
 unfoldable tabled : (ℕ → ℕ) → ℕ → ℕ → List ℕ
@@ -148,3 +148,12 @@ module _ (j t : ℕ) (h : j < 129) (e : t ≡ pairEntry j) where
 
   pub low-small : t % 4294967296 ≤ 2147483648
   low-small = subst (λ (n : ℕ). n ≤ 2147483648) (sym low-half) (cosine-small j h)
+
+-- ---- the sums of an angle's parts
+pub sine-of-parts : (x s c a b : ℕ) → PartsOf x s c a b → sineSum s c a b ≡ fixedSine x
+unfolding fixedSine
+sine-of-parts x s c a b p = simp (p .s-is, p .c-is, p .a-is, p .b-is)
+
+pub cosine-of-parts : (x s c a b : ℕ) → PartsOf x s c a b → cosineSum s c a b ≡ fixedCosine x
+unfolding fixedCosine
+cosine-of-parts x s c a b p = simp (p .s-is, p .c-is, p .a-is, p .b-is)

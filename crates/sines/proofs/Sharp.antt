@@ -265,13 +265,6 @@ module _ (x : Float) (f : T (fits binary32 x)) (p : T (permits sineArgument x)) 
   pub cosine-one : FromMinusOneToOne (cosine x)
   cosine-one = subst FromMinusOneToOne cosine-is inside-cosine-one
 
--- ---- the two signs
-pub sine-negative : (x : Float) → 964689920 ≤ bare x → 2147483648 ≤ toBits binary32 x → neg (centred (fixedSine (fixed (bare x)))) ≡ insideSine x
-sine-negative x h g = simp (le-leb 2147483648 (toBits binary32 x) g) at (sine-else x h)
-
-pub sine-positive : (x : Float) → 964689920 ≤ bare x → toBits binary32 x < 2147483648 → centred (fixedSine (fixed (bare x))) ≡ insideSine x
-sine-positive x h g = simp (lt-leb 2147483648 (toBits binary32 x) g) at (sine-else x h)
-
 -- ---- outside the table
 pub sine-outside : (x : Float) → permits sineArgument x ≡ false → sine x ≡ fin false 0 (pos 0)
 unfolding sine

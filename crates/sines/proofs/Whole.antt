@@ -202,3 +202,10 @@ module _ (x : ℕ) (h : x ≤ 549755813888) where
       let o = C-at-most-one x h in
       result FD (cosineEntry j * a + 1073741824 * b) (1073741824 * a + sineEntry j * b) (fcp x) (fcm x) _ FD-pos (f .0) (f .1)
       (subst (λ (n : ℕ). Close FD (cosineEntry j * a + 1073741824 * b) (1073741824 * a + sineEntry j * b) (fcp n) (fcm n)) whole cosine-close) (o .up) (o .down)
+
+-- what `centred` takes
+pub sine-fits : (x w : ℕ) → x ≤ 549755813888 → w ≡ fixedSine x → (4194304 ≤ w) × (w ≤ 37748736)
+sine-fits x w h e = (subst (λ (n : ℕ). 4194304 ≤ n) (sym e) (sine-result x h .least), subst (λ (n : ℕ). n ≤ 37748736) (sym e) (sine-result x h .most))
+
+pub cosine-fits : (x w : ℕ) → x ≤ 549755813888 → w ≡ fixedCosine x → (4194304 ≤ w) × (w ≤ 37748736)
+cosine-fits x w h e = (subst (λ (n : ℕ). 4194304 ≤ n) (sym e) (cosine-result x h .least), subst (λ (n : ℕ). n ≤ 37748736) (sym e) (cosine-result x h .most))

@@ -1,5 +1,6 @@
 -- How ours computes sine and cosine, in whole numbers: nothing of document 01. Outside the table of permitted numbers the cores give +0.
-use Prim.Native.Nat.{ℕ, _+_, _-_, _*_, _/_, _%_, _^_}
+use Prim.Native.Nat.{ℕ, _+_, _-_, _*_, _/_, _%_, _^_, _≤_}
+use mathlib.Core.Path.{_≡_}
 use mathlib.Core.Bool.{Bool, true, false, cond}
 use lib.Dec.{leb, ltb}
 use lib.IntN.{pos, negsuc, _-ℤ_}
@@ -43,6 +44,17 @@ even q = 4294967296 - q * (33554432 - q * 43670 / 4294967296) / 4294967296
 
 unfoldable pub odd : ℕ → ℕ → ℕ
 odd r q = r * (536870912 - q * (1398101 - q * 1092 / 4294967296) / 4294967296) / 4294967296
+
+-- the parts of x: sine and cosine of its place, cosine and sine of its rest, and how large they are
+pub record PartsOf (x s c a b : ℕ) : Type 0 where
+  pub s-is : s ≡ sineEntry (place x)
+  pub c-is : c ≡ cosineEntry (place x)
+  pub a-is : a ≡ even (square (rest x))
+  pub b-is : b ≡ odd (rest x) (square (rest x))
+  pub s-high : s ≤ 2147483648
+  pub c-high : c ≤ 2147483648
+  pub a-high : a ≤ 4294967296
+  pub b-high : b ≤ 536870912
 
 -- ---- by the sums of two angles, in units of 2 ^ -24, plus 5 * 2 ^ 22 so that nothing is negative
 unfoldable pub sineSum : ℕ → ℕ → ℕ → ℕ → ℕ

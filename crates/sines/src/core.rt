@@ -4,7 +4,9 @@ use crate::fixed;
 use numbers::door;
 use numbers::limits;
 ghost use mathlib.Core.Path.{_≡_};
-ghost use lib.Dec.{T};
+ghost use mathlib.Core.Bool.{cond};
+ghost use lib.Dec.{T, leb};
+ghost use lib.Ieee.{neg};
 ghost use Rattle.numbers.specs.Door.{permits};
 ghost use Rattle.numbers.specs.Limits.{sineArgument};
 ghost use Rattle.sines.specs.How.{sine, cosine, insideSine, insideCosine};
@@ -34,6 +36,33 @@ pub fn cosine(x: f32) -> f32
     }
 }
 
+// The sine and the cosine of one angle.
+pub struct Turn {
+    pub sine: f32,
+    pub cosine: f32,
+}
+
+// Both of x radians.
+pub fn sine_and_cosine(x: f32) -> Turn
+    ensures { λ r. ⌜ (r .sine ≡ sine x) × (r .cosine ≡ cosine x) ⌝ }
+{
+    if door::is_permitted(limits::sine_argument(), x) {
+        inside_both(x)
+    } else {
+        Turn {
+            sine: 0.0,
+            cosine: 0.0,
+        }
+    }
+}
+
+// y with the sign of the number whose bits are b, where y has none.
+fn signed(b: u32, y: f32) -> f32
+    ensures { λ r. ⌜ r ≡ cond (leb 2147483648 b) (neg y) y ⌝ }
+{
+    if 0x8000_0000 <= b { -y } else { y }
+}
+
 // Below 2^-12 (pattern 0x3980_0000) the sine is x itself, nearer than 2^-38. S is odd.
 pub(crate) fn inside_sine(x: f32) -> f32
     requires { ⌜ T (permits sineArgument x) ⌝ }
@@ -44,8 +73,7 @@ pub(crate) fn inside_sine(x: f32) -> f32
     if m < 0x3980_0000 {
         return x;
     }
-    let y = fixed::centred(fixed::sine(fixed::fixed_of(m)));
-    if 0x8000_0000 <= b { -y } else { y }
+    signed(b, fixed::centred(fixed::sine(fixed::fixed_of(m))))
 }
 
 // Below 2^-12 the cosine is 1, nearer than 2^-25. C is even.
@@ -58,4 +86,24 @@ pub(crate) fn inside_cosine(x: f32) -> f32
         return 1.0;
     }
     fixed::centred(fixed::cosine(fixed::fixed_of(m)))
+}
+
+// Both, each as above.
+fn inside_both(x: f32) -> Turn
+    requires { ⌜ T (permits sineArgument x) ⌝ }
+    ensures { λ r. ⌜ (r .sine ≡ insideSine x) × (r .cosine ≡ insideCosine x) ⌝ }
+{
+    let b = f32::to_bits(x);
+    let m = b % 0x8000_0000;
+    if m < 0x3980_0000 {
+        return Turn {
+            sine: x,
+            cosine: 1.0,
+        };
+    }
+    let both = fixed::both(fixed::fixed_of(m));
+    Turn {
+        sine: signed(b, fixed::centred(both.sine)),
+        cosine: fixed::centred(both.cosine),
+    }
 }

@@ -3,7 +3,7 @@
 use crate::table;
 ghost use mathlib.Core.Path.{_≡_};
 ghost use Prim.Native.Nat.{_≤_, _<_};
-ghost use Rattle.sines.specs.How.{fixed, square, even, odd, sineSum, cosineSum, fixedSine, fixedCosine, centred};
+ghost use Rattle.sines.specs.How.{fixed, square, even, odd, PartsOf, sineSum, cosineSum, fixedSine, fixedCosine, centred};
 
 // The magnitude of an f32 from 2^-12 to 16 in units of 2^-35, from its bits without the sign.
 pub fn fixed_of(m: u32) -> u64
@@ -61,17 +61,38 @@ fn cosine_sum(s: u64, c: u64, a: u64, b: u64) -> u64
     (low + c * a - s * b + 0x20_0000_0000) / 0x40_0000_0000
 }
 
+// An angle as whole eighths and a rest: sine and cosine of the eighths, as the table has them, then
+// cosine and sine of the rest.
+pub struct Parts {
+    pub s: u64,
+    pub c: u64,
+    pub a: u64,
+    pub b: u64,
+}
+
+// The parts of x in units of 2^-35, up to 16.
+fn taken_apart(x: u64) -> Parts
+    requires { ⌜ x ≤ 549755813888 ⌝ }
+    ensures { λ p. ⌜ PartsOf x (p .s) (p .c) (p .a) (p .b) ⌝ }
+{
+    let both = table::entry(x / 0x1_0000_0000);
+    let r = x % 0x1_0000_0000;
+    let q = square_of(r);
+    Parts {
+        s: both / 0x1_0000_0000,
+        c: both % 0x1_0000_0000,
+        a: even_part(q),
+        b: odd_part(r, q),
+    }
+}
+
 // Sine of x in units of 2^-35, up to 16; in units of 2^-24, plus 5 * 2^22.
 pub fn sine(x: u64) -> u64
     requires { ⌜ x ≤ 549755813888 ⌝ }
     ensures { λ w. ⌜ w ≡ fixedSine x ⌝ }
 {
-    let both = table::entry(x / 0x1_0000_0000);
-    let s = both / 0x1_0000_0000;
-    let c = both % 0x1_0000_0000;
-    let r = x % 0x1_0000_0000;
-    let q = square_of(r);
-    sine_sum(s, c, even_part(q), odd_part(r, q))
+    let p = taken_apart(x);
+    sine_sum(p.s, p.c, p.a, p.b)
 }
 
 // Cosine, likewise.
@@ -79,12 +100,26 @@ pub fn cosine(x: u64) -> u64
     requires { ⌜ x ≤ 549755813888 ⌝ }
     ensures { λ w. ⌜ w ≡ fixedCosine x ⌝ }
 {
-    let both = table::entry(x / 0x1_0000_0000);
-    let s = both / 0x1_0000_0000;
-    let c = both % 0x1_0000_0000;
-    let r = x % 0x1_0000_0000;
-    let q = square_of(r);
-    cosine_sum(s, c, even_part(q), odd_part(r, q))
+    let p = taken_apart(x);
+    cosine_sum(p.s, p.c, p.a, p.b)
+}
+
+// A sine and a cosine, likewise.
+pub struct Pair {
+    pub sine: u64,
+    pub cosine: u64,
+}
+
+// Both of one angle.
+pub fn both(x: u64) -> Pair
+    requires { ⌜ x ≤ 549755813888 ⌝ }
+    ensures { λ w. ⌜ (w .sine ≡ fixedSine x) × (w .cosine ≡ fixedCosine x) ⌝ }
+{
+    let p = taken_apart(x);
+    Pair {
+        sine: sine_sum(p.s, p.c, p.a, p.b),
+        cosine: cosine_sum(p.s, p.c, p.a, p.b),
+    }
 }
 
 // The f32 of a number in units of 2^-24, plus 5 * 2^22.

@@ -10,7 +10,7 @@ use Rattle.moves.specs.declared.FeetStep.the-variants.{Moved, Arrived}
 use Rattle.commands.specs.declared.Time.{Time}
 use Rattle.steps.specs.Progress.{stepProgress, timedProgress, evenProgress}
 use Rattle.steps.specs.Shift.{shiftLegs}
-use Rattle.steps.specs.Next.{stepEnded, timedEnded, evenEnded, stepLift, stepAfter, timedAfter, evenAfter, nextStep, nextTimed, nextEven}
+use Rattle.steps.specs.Next.{stepEnded, timedEnded, stepLift, stepAfter, byTime, timedAfter, evenAfter, nextStep, nextTimed, nextEven}
 use Rattle.steps.specs.declared.StepIterator.{StepIterator}
 use Rattle.steps.specs.declared.TimedStepIterator.{TimedStepIterator}
 use Rattle.steps.specs.declared.EvenStepIterator.{EvenStepIterator}
@@ -34,12 +34,12 @@ step-taken s s' f =
 -- by time
 pub timed-step-taken : (s s' : TimedStepIterator) (elapsed : Time) (f : Feet) → nextTimed s elapsed ≡ TimedStep f s'
     → f ≡ feetOf (shiftLegs (s .start) (s .last) (s .target) (s .lift) (timedProgress elapsed (s .period)))
-unfolding nextTimed feetOf
+unfolding nextTimed byTime feetOf
 timed-step-taken s s' elapsed f =
     by-test (timedEnded (maxHorizontalDistance (s .start) (s .target)))
     (shiftLegs (s .start) (s .last) (s .target) (s .lift) (timedProgress elapsed (s .period)))
   where
-    by-test : (b : Bool) (g : FeetStep) → choose b NoTimedStep (timedAfter s g) ≡ TimedStep f s' → f ≡ feetOf g
+    by-test : (b : Bool) (g : FeetStep) → timedAfter s (choose b (Arrived (s .last)) g) ≡ TimedStep f s' → f ≡ feetOf g
     by-test true g e = cc
     by-test false (Moved x) e = cc
     by-test false (Arrived x) e = cc
@@ -47,12 +47,12 @@ timed-step-taken s s' elapsed f =
 -- at even pace
 pub even-step-taken : (s s' : EvenStepIterator) (elapsed : Time) (f : Feet) → nextEven s elapsed ≡ EvenStep f s'
     → f ≡ feetOf (shiftLegs (s .start) (s .last) (s .target) (s .lift) (evenProgress elapsed (s .period)))
-unfolding nextEven feetOf
+unfolding nextEven byTime feetOf
 even-step-taken s s' elapsed f =
-    by-test (evenEnded (maxHorizontalDistance (s .start) (s .target)))
+    by-test (timedEnded (maxHorizontalDistance (s .start) (s .target)))
     (shiftLegs (s .start) (s .last) (s .target) (s .lift) (evenProgress elapsed (s .period)))
   where
-    by-test : (b : Bool) (g : FeetStep) → choose b NoEvenStep (evenAfter s g) ≡ EvenStep f s' → f ≡ feetOf g
+    by-test : (b : Bool) (g : FeetStep) → evenAfter s (choose b (Arrived (s .last)) g) ≡ EvenStep f s' → f ≡ feetOf g
     by-test true g e = cc
     by-test false (Moved x) e = cc
     by-test false (Arrived x) e = cc

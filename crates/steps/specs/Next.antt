@@ -3,6 +3,7 @@ use mathlib.Core.Bool.{Bool}
 use lib.Ieee.{Float, eq, le}
 use Rattle.numbers.specs.Told.{choose}
 use Rattle.numbers.specs.Limits.{over}
+use Rattle.legs.specs.declared.Feet.{Feet}
 use Rattle.moves.specs.Distance.{maxHorizontalDistance}
 use Rattle.moves.specs.declared.FeetStep.{FeetStep}
 use Rattle.moves.specs.declared.FeetStep.the-variants.{Moved, Arrived}
@@ -24,16 +25,12 @@ unfoldable pub nothing : Float
 nothing = over 0 1
 
 -- full: "longest of start and target". "Longest of start and target is 0: no step, though z may differ."
--- When each iterator has ended, over full; the source tests the timed one by <=
+-- The source tests a step by time with <=
 abbrev pub stepEnded : Float → Bool
 stepEnded full = eq full nothing
 
 abbrev pub timedEnded : Float → Bool
 timedEnded full = le full nothing
-
--- even pace "also ends when the longest horizontal distance is 0"
-abbrev pub evenEnded : Float → Bool
-evenEnded full = eq full nothing
 
 -- `StepIterator`: "its descent is 0"
 abbrev pub stepLift : StepIterator → Lift
@@ -70,6 +67,13 @@ nextStep s =
     (s .«max_move»)
     (maxHorizontalDistance (s .start) (s .target)))))
 
+-- the six legs of a step by time. Even pace is "the same, divided once; it also ends when the longest horizontal distance is 0"
+unfoldable pub byTime : Feet → Feet → Feet → Lift → Float → FeetStep
+byTime start last target lift progress =
+    choose (timedEnded (maxHorizontalDistance start target))
+    (Arrived last)
+    (shiftLegs start last target lift progress)
+
 abbrev pub timedAfter : TimedStepIterator → FeetStep → NextTimed
 timedAfter s (Moved f) =
     TimedStep f (record { start = s .start; last = f; target = s .target; period = s .period; lift = s .lift })
@@ -77,9 +81,7 @@ timedAfter s (Arrived f) = NoTimedStep
 
 unfoldable pub nextTimed : TimedStepIterator → Time → NextTimed
 nextTimed s elapsed =
-    choose (timedEnded (maxHorizontalDistance (s .start) (s .target)))
-    NoTimedStep
-    (timedAfter s (shiftLegs (s .start) (s .last) (s .target) (s .lift) (timedProgress elapsed (s .period))))
+    timedAfter s (byTime (s .start) (s .last) (s .target) (s .lift) (timedProgress elapsed (s .period)))
 
 abbrev pub evenAfter : EvenStepIterator → FeetStep → NextEven
 evenAfter s (Moved f) =
@@ -88,6 +90,4 @@ evenAfter s (Arrived f) = NoEvenStep
 
 unfoldable pub nextEven : EvenStepIterator → Time → NextEven
 nextEven s elapsed =
-    choose (evenEnded (maxHorizontalDistance (s .start) (s .target)))
-    NoEvenStep
-    (evenAfter s (shiftLegs (s .start) (s .last) (s .target) (s .lift) (evenProgress elapsed (s .period))))
+    evenAfter s (byTime (s .start) (s .last) (s .target) (s .lift) (evenProgress elapsed (s .period)))

@@ -21,7 +21,7 @@ ghost use Rattle.steps.specs.Leg.{stepLiftedLeg};
 ghost use Rattle.legs.specs.Legs.{leftFront, rightFront};
 ghost use Rattle.steps.specs.Shift.{heightOf, shiftLegs};
 ghost use Rattle.steps.specs.How.{atOnce, swing, raised, legAt};
-ghost use Rattle.steps.specs.Next.{nextStep, nextTimed, nextEven};
+ghost use Rattle.steps.specs.Next.{nextStep, byTime, nextTimed, nextEven};
 
 // How far the step is: what the feet have gone by now and max_move more, as a part of the whole way.
 pub fn step_progress(gone: f32, max_move: f32, full: f32) -> f32
@@ -237,16 +237,24 @@ pub fn next_step(s: StepIterator) -> NextStep
     }
 }
 
+// The feet of a step by time; where the longest horizontal distance is 0 none moves.
+fn by_time(start: Feet, last: Feet, target: Feet, lift: Lift, progress: f32) -> FeetStep
+    ensures { λ r. ⌜ r ≡ byTime start last target lift progress ⌝ }
+{
+    let full = moves::core::max_horizontal_distance(start, target);
+    if full <= 0.0 {
+        FeetStep::Arrived(last)
+    } else {
+        shift_legs(start, last, target, lift, progress)
+    }
+}
+
 // One step more by time.
 pub fn next_timed(s: TimedStepIterator, elapsed: Time) -> NextTimed
     ensures { λ r. ⌜ r ≡ nextTimed s elapsed ⌝ }
 {
-    let full = moves::core::max_horizontal_distance(s.start, s.target);
-    if full <= 0.0 {
-        return NextTimed::NoStep;
-    }
     let progress = timed_progress(elapsed, s.period);
-    let step = shift_legs(s.start, s.last, s.target, s.lift, progress);
+    let step = by_time(s.start, s.last, s.target, s.lift, progress);
     match step {
         FeetStep::Moved(feet) => {
             let mut after = s;
@@ -261,12 +269,8 @@ pub fn next_timed(s: TimedStepIterator, elapsed: Time) -> NextTimed
 pub fn next_even(s: EvenStepIterator, elapsed: Time) -> NextEven
     ensures { λ r. ⌜ r ≡ nextEven s elapsed ⌝ }
 {
-    let full = moves::core::max_horizontal_distance(s.start, s.target);
-    if full == 0.0 {
-        return NextEven::NoStep;
-    }
     let progress = even_progress(elapsed, s.period);
-    let step = shift_legs(s.start, s.last, s.target, s.lift, progress);
+    let step = by_time(s.start, s.last, s.target, s.lift, progress);
     match step {
         FeetStep::Moved(feet) => {
             let mut after = s;

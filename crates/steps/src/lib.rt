@@ -8,7 +8,7 @@ use numbers::door;
 ghost use mathlib.Core.Path.{_≡_};
 ghost use Rattle.numbers.specs.Answers.{told};
 ghost use Rattle.steps.specs.Answers.{toldStepIter, toldNextStep, toldTimedIter, toldNextTimed, toldEvenIter, toldNextEven};
-ghost use Rattle.steps.specs.Refusals.{progressRefusal, stepRefusal, liftRefusal};
+ghost use Rattle.steps.specs.Refusals.{progressRefusal, stepRefusal, liftRefusal, atRefusal};
 ghost use Rattle.steps.specs.Entries.{timedProgressTold, evenProgressTold, stepIterTold, nextStepTold, timedIterTold, nextTimedTold, evenIterTold, nextEvenTold};
 
 pub mod core;
@@ -143,12 +143,27 @@ pub fn lift_refused(start: Feet, last: Feet, target: Feet, lift: Lift, period: T
     let permitted = core::course_permitted(start, last, target)
         & door::is_permitted(limit, lift.step_height)
         & door::is_permitted(limit, lift.grounded_leg_descent);
+    door::first_of(
+        finite,
+        permitted,
+        door::unless(commands::core::is_period(period), 3),
+    )
+}
+
+// The same at an elapsed time.
+pub fn at_refused(
+    start: Feet,
+    last: Feet,
+    target: Feet,
+    lift: Lift,
+    period: Time,
+    elapsed: Time,
+) -> u32
+    ensures { λ r. ⌜ r ≡ atRefusal start last target lift period elapsed ⌝ }
+{
     door::either(
-        door::unless(finite, 1),
-        door::either(
-            door::unless(permitted, 2),
-            door::unless(commands::core::is_period(period), 3),
-        ),
+        lift_refused(start, last, target, lift, period),
+        door::unless(commands::core::is_elapsed(elapsed), 3),
     )
 }
 
@@ -217,9 +232,13 @@ impl TimedStepIterator {
     pub fn next(self, elapsed: Time) -> NextTimed
         ensures { λ r. ⌜ toldNextTimed r ≡ nextTimedTold self elapsed ⌝ }
     {
-        let n = door::either(
-            lift_refused(self.start, self.last, self.target, self.lift, self.period),
-            door::unless(commands::core::is_elapsed(elapsed), 3),
+        let n = at_refused(
+            self.start,
+            self.last,
+            self.target,
+            self.lift,
+            self.period,
+            elapsed,
         );
         if n == 0 {
             core::next_timed(self, elapsed)
@@ -252,9 +271,13 @@ impl EvenStepIterator {
     pub fn next(self, elapsed: Time) -> NextEven
         ensures { λ r. ⌜ toldNextEven r ≡ nextEvenTold self elapsed ⌝ }
     {
-        let n = door::either(
-            lift_refused(self.start, self.last, self.target, self.lift, self.period),
-            door::unless(commands::core::is_elapsed(elapsed), 3),
+        let n = at_refused(
+            self.start,
+            self.last,
+            self.target,
+            self.lift,
+            self.period,
+            elapsed,
         );
         if n == 0 {
             core::next_even(self, elapsed)

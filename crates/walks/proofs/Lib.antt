@@ -17,4 +17,6 @@ pub mod Table
 pub mod OneAnswer
 pub mod Trail
 pub mod Unrefused
+pub mod Ends
+pub mod Rounds
 pub mod Examples

@@ -19,35 +19,23 @@ feet-permitted-requires c κs = search needs
 feet-permitted-requires-2 : tie.Need-feet-permitted-requires-2
 feet-permitted-requires-2 c κs = search needs
 
-unless-requires : tie.Need-unless-requires
-unless-requires c κs = search needs
-
-unless-requires-2 : tie.Need-unless-requires-2
-unless-requires-2 c κs = search needs
-
 mask-refused-requires : tie.Need-mask-refused-requires
 mask-refused-requires c κs = search needs
 
-either-requires : tie.Need-either-requires
-either-requires c κs = search needs
-
-either-requires-2 : tie.Need-either-requires-2
-either-requires-2 c κs = search needs
+first-of-requires : tie.Need-first-of-requires
+first-of-requires c κs = search needs
 
 returns : tie.Need-returns
 unfolding mergeRefusal
 returns c =
     simp (
-      c .either2 .ensures,
-      c .before .either .ensures,
-      c .before .before .mask-refused .ensures,
-      c .before .before .before .unless2 .ensures,
-      c .before .before .before .before .unless .ensures,
-      c .before .before .before .before .before .feet-permitted2 .ensures,
-      c .before .before .before .before .before .before .feet-permitted .ensures,
-      c .before .before .before .before .before .before .before .feet-finite2 .ensures,
-      c .before .before .before .before .before .before .before .before .feet-finite .ensures,
-      c .before .before .before .before .before .before .before .before .before .foot .ensures,
+      c .first-of .ensures,
+      c .before .mask-refused .ensures,
+      c .before .before .feet-permitted2 .ensures,
+      c .before .before .before .feet-permitted .ensures,
+      c .before .before .before .before .feet-finite2 .ensures,
+      c .before .before .before .before .before .feet-finite .ensures,
+      c .before .before .before .before .before .before .foot .ensures,
     )
 
 pub merge-refused-spec : {M : Type 1} → statement M
@@ -59,9 +47,6 @@ merge-refused-spec =
     feet-finite-requires-2
     feet-permitted-requires
     feet-permitted-requires-2
-    unless-requires
-    unless-requires-2
     mask-refused-requires
-    either-requires
-    either-requires-2
+    first-of-requires
     returns)

@@ -4,6 +4,24 @@ use borrow.Author.Needs.{needs}
 use Rattle.joints.proofs.core.calculate_ik.Statement.{statement}
 use Rattle.joints.proofs.core.calculate_ik.Tie as tie
 
+set-out-requires : tie.Need-set-out-requires
+set-out-requires c κs = search needs
+
+set-out-requires-2 : tie.Need-set-out-requires-2
+set-out-requires-2 c κs = search needs
+
+set-out-requires-3 : tie.Need-set-out-requires-3
+set-out-requires-3 c κs = search needs
+
+set-out-requires-4 : tie.Need-set-out-requires-4
+set-out-requires-4 c κs = search needs
+
+set-out-requires-5 : tie.Need-set-out-requires-5
+set-out-requires-5 c κs = search needs
+
+set-out-requires-6 : tie.Need-set-out-requires-6
+set-out-requires-6 c κs = search needs
+
 calculate-ik-for-leg-requires : tie.Need-calculate-ik-for-leg-requires
 calculate-ik-for-leg-requires c κs = search needs
 
@@ -13,12 +31,27 @@ enum-known-angles c = search needs
 enum-known-side : tie.Need-enum-known-side
 enum-known-side c = search needs
 
+abbrev back2 : tie.After-calculate-ik-for-leg2 → tie.After-calculate-ik-for-leg
+back2 c = c .before .before .before .before
+
+abbrev back3 : tie.After-calculate-ik-for-leg3 → tie.After-calculate-ik-for-leg
+back3 c = back2 (c .before .before .before .before)
+
+abbrev back4 : tie.After-calculate-ik-for-leg4 → tie.After-calculate-ik-for-leg
+back4 c = back3 (c .before .before .before .before)
+
+abbrev back5 : tie.After-calculate-ik-for-leg5 → tie.After-calculate-ik-for-leg
+back5 c = back4 (c .before .before .before .before)
+
+abbrev back6 : tie.After-calculate-ik-for-leg6 → tie.After-calculate-ik-for-leg
+back6 c = back5 (c .before .before .before .before)
+
 returns : tie.Need-returns
 unfolding firstPast solved
 returns c =
     simp (
       c .before .side .given .1,
-      ← c .before .before .before .calculate-ik-for-leg .ensures,
+      ← c .before .before .before .calculate-ik-for-leg .ensures _ ((c .before .before .before) .before .before .before .before .before .before .set-out .ensures),
     )
 
 calculate-ik-for-leg-requires-2 : tie.Need-calculate-ik-for-leg-requires-2
@@ -35,9 +68,9 @@ unfolding firstPast solved
 returns-2 c =
     simp (
       c .before .side2 .given .1,
-      ← c .before .before .before .calculate-ik-for-leg2 .ensures,
+      ← c .before .before .before .calculate-ik-for-leg2 .ensures _ ((back2 ((c .before .before .before))) .before .before .before .before .before .set-out2 .ensures),
       c .before .before .before .before .before .angles .given .1,
-      ← c .before .before .before .before .before .before .before .calculate-ik-for-leg .ensures,
+      ← c .before .before .before .before .before .before .before .calculate-ik-for-leg .ensures _ ((c .before .before .before .before .before .before .before) .before .before .before .before .before .before .set-out .ensures),
     )
 
 calculate-ik-for-leg-requires-3 : tie.Need-calculate-ik-for-leg-requires-3
@@ -54,11 +87,11 @@ unfolding firstPast solved
 returns-3 c =
     simp (
       c .before .side3 .given .1,
-      ← c .before .before .before .calculate-ik-for-leg3 .ensures,
+      ← c .before .before .before .calculate-ik-for-leg3 .ensures _ ((back3 ((c .before .before .before))) .before .before .before .before .set-out3 .ensures),
       c .before .before .before .before .before .angles2 .given .1,
-      ← c .before .before .before .before .before .before .before .calculate-ik-for-leg2 .ensures,
+      ← c .before .before .before .before .before .before .before .calculate-ik-for-leg2 .ensures _ ((back2 ((c .before .before .before .before .before .before .before))) .before .before .before .before .before .set-out2 .ensures),
       c .before .before .before .before .before .before .before .before .before .angles .given .1,
-      ← c .before .before .before .before .before .before .before .before .before .before .before .calculate-ik-for-leg .ensures,
+      ← c .before .before .before .before .before .before .before .before .before .before .before .calculate-ik-for-leg .ensures _ ((c .before .before .before .before .before .before .before .before .before .before .before) .before .before .before .before .before .before .set-out .ensures),
     )
 
 calculate-ik-for-leg-requires-4 : tie.Need-calculate-ik-for-leg-requires-4
@@ -75,13 +108,13 @@ unfolding firstPast solved
 returns-4 c =
     simp (
       c .before .side4 .given .1,
-      ← c .before .before .before .calculate-ik-for-leg4 .ensures,
+      ← c .before .before .before .calculate-ik-for-leg4 .ensures _ ((back4 ((c .before .before .before))) .before .before .before .set-out4 .ensures),
       c .before .before .before .before .before .angles3 .given .1,
-      ← c .before .before .before .before .before .before .before .calculate-ik-for-leg3 .ensures,
+      ← c .before .before .before .before .before .before .before .calculate-ik-for-leg3 .ensures _ ((back3 ((c .before .before .before .before .before .before .before))) .before .before .before .before .set-out3 .ensures),
       c .before .before .before .before .before .before .before .before .before .angles2 .given .1,
-      ← c .before .before .before .before .before .before .before .before .before .before .before .calculate-ik-for-leg2 .ensures,
+      ← c .before .before .before .before .before .before .before .before .before .before .before .calculate-ik-for-leg2 .ensures _ ((back2 ((c .before .before .before .before .before .before .before .before .before .before .before))) .before .before .before .before .before .set-out2 .ensures),
       c .before .before .before .before .before .before .before .before .before .before .before .before .before .angles .given .1,
-      ← c .before .before .before .before .before .before .before .before .before .before .before .before .before .before .before .calculate-ik-for-leg .ensures,
+      ← c .before .before .before .before .before .before .before .before .before .before .before .before .before .before .before .calculate-ik-for-leg .ensures _ ((c .before .before .before .before .before .before .before .before .before .before .before .before .before .before .before) .before .before .before .before .before .before .set-out .ensures),
     )
 
 calculate-ik-for-leg-requires-5 : tie.Need-calculate-ik-for-leg-requires-5
@@ -98,15 +131,15 @@ unfolding firstPast solved
 returns-5 c =
     simp (
       c .before .side5 .given .1,
-      ← c .before .before .before .calculate-ik-for-leg5 .ensures,
+      ← c .before .before .before .calculate-ik-for-leg5 .ensures _ ((back5 ((c .before .before .before))) .before .before .set-out5 .ensures),
       c .before .before .before .before .before .angles4 .given .1,
-      ← c .before .before .before .before .before .before .before .calculate-ik-for-leg4 .ensures,
+      ← c .before .before .before .before .before .before .before .calculate-ik-for-leg4 .ensures _ ((back4 ((c .before .before .before .before .before .before .before))) .before .before .before .set-out4 .ensures),
       c .before .before .before .before .before .before .before .before .before .angles3 .given .1,
-      ← c .before .before .before .before .before .before .before .before .before .before .before .calculate-ik-for-leg3 .ensures,
+      ← c .before .before .before .before .before .before .before .before .before .before .before .calculate-ik-for-leg3 .ensures _ ((back3 ((c .before .before .before .before .before .before .before .before .before .before .before))) .before .before .before .before .set-out3 .ensures),
       c .before .before .before .before .before .before .before .before .before .before .before .before .before .angles2 .given .1,
-      ← c .before .before .before .before .before .before .before .before .before .before .before .before .before .before .before .calculate-ik-for-leg2 .ensures,
+      ← c .before .before .before .before .before .before .before .before .before .before .before .before .before .before .before .calculate-ik-for-leg2 .ensures _ ((back2 ((c .before .before .before .before .before .before .before .before .before .before .before .before .before .before .before))) .before .before .before .before .before .set-out2 .ensures),
       c .before .before .before .before .before .before .before .before .before .before .before .before .before .before .before .before .before .angles .given .1,
-      ← c .before .before .before .before .before .before .before .before .before .before .before .before .before .before .before .before .before .before .before .calculate-ik-for-leg .ensures,
+      ← c .before .before .before .before .before .before .before .before .before .before .before .before .before .before .before .before .before .before .before .calculate-ik-for-leg .ensures _ ((c .before .before .before .before .before .before .before .before .before .before .before .before .before .before .before .before .before .before .before) .before .before .before .before .before .before .set-out .ensures),
     )
 
 calculate-ik-for-leg-requires-6 : tie.Need-calculate-ik-for-leg-requires-6
@@ -123,17 +156,17 @@ unfolding firstPast solved
 returns-6 c =
     simp (
       c .before .side6 .given .1,
-      ← c .before .before .before .calculate-ik-for-leg6 .ensures,
+      ← c .before .before .before .calculate-ik-for-leg6 .ensures _ ((back6 ((c .before .before .before))) .before .set-out6 .ensures),
       c .before .before .before .before .before .angles5 .given .1,
-      ← c .before .before .before .before .before .before .before .calculate-ik-for-leg5 .ensures,
+      ← c .before .before .before .before .before .before .before .calculate-ik-for-leg5 .ensures _ ((back5 ((c .before .before .before .before .before .before .before))) .before .before .set-out5 .ensures),
       c .before .before .before .before .before .before .before .before .before .angles4 .given .1,
-      ← c .before .before .before .before .before .before .before .before .before .before .before .calculate-ik-for-leg4 .ensures,
+      ← c .before .before .before .before .before .before .before .before .before .before .before .calculate-ik-for-leg4 .ensures _ ((back4 ((c .before .before .before .before .before .before .before .before .before .before .before))) .before .before .before .set-out4 .ensures),
       c .before .before .before .before .before .before .before .before .before .before .before .before .before .angles3 .given .1,
-      ← c .before .before .before .before .before .before .before .before .before .before .before .before .before .before .before .calculate-ik-for-leg3 .ensures,
+      ← c .before .before .before .before .before .before .before .before .before .before .before .before .before .before .before .calculate-ik-for-leg3 .ensures _ ((back3 ((c .before .before .before .before .before .before .before .before .before .before .before .before .before .before .before))) .before .before .before .before .set-out3 .ensures),
       c .before .before .before .before .before .before .before .before .before .before .before .before .before .before .before .before .before .angles2 .given .1,
-      ← c .before .before .before .before .before .before .before .before .before .before .before .before .before .before .before .before .before .before .before .calculate-ik-for-leg2 .ensures,
+      ← c .before .before .before .before .before .before .before .before .before .before .before .before .before .before .before .before .before .before .before .calculate-ik-for-leg2 .ensures _ ((back2 ((c .before .before .before .before .before .before .before .before .before .before .before .before .before .before .before .before .before .before .before))) .before .before .before .before .before .set-out2 .ensures),
       c .before .before .before .before .before .before .before .before .before .before .before .before .before .before .before .before .before .before .before .before .before .angles .given .1,
-      ← c .before .before .before .before .before .before .before .before .before .before .before .before .before .before .before .before .before .before .before .before .before .before .before .calculate-ik-for-leg .ensures,
+      ← c .before .before .before .before .before .before .before .before .before .before .before .before .before .before .before .before .before .before .before .before .before .before .before .calculate-ik-for-leg .ensures _ ((c .before .before .before .before .before .before .before .before .before .before .before .before .before .before .before .before .before .before .before .before .before .before .before) .before .before .before .before .before .before .set-out .ensures),
     )
 
 returns-7 : tie.Need-returns-7
@@ -141,23 +174,29 @@ unfolding firstPast solved
 returns-7 c =
     simp (
       c .before .angles6 .given .1,
-      ← c .before .before .before .calculate-ik-for-leg6 .ensures,
+      ← c .before .before .before .calculate-ik-for-leg6 .ensures _ ((back6 ((c .before .before .before))) .before .set-out6 .ensures),
       c .before .before .before .before .before .angles5 .given .1,
-      ← c .before .before .before .before .before .before .before .calculate-ik-for-leg5 .ensures,
+      ← c .before .before .before .before .before .before .before .calculate-ik-for-leg5 .ensures _ ((back5 ((c .before .before .before .before .before .before .before))) .before .before .set-out5 .ensures),
       c .before .before .before .before .before .before .before .before .before .angles4 .given .1,
-      ← c .before .before .before .before .before .before .before .before .before .before .before .calculate-ik-for-leg4 .ensures,
+      ← c .before .before .before .before .before .before .before .before .before .before .before .calculate-ik-for-leg4 .ensures _ ((back4 ((c .before .before .before .before .before .before .before .before .before .before .before))) .before .before .before .set-out4 .ensures),
       c .before .before .before .before .before .before .before .before .before .before .before .before .before .angles3 .given .1,
-      ← c .before .before .before .before .before .before .before .before .before .before .before .before .before .before .before .calculate-ik-for-leg3 .ensures,
+      ← c .before .before .before .before .before .before .before .before .before .before .before .before .before .before .before .calculate-ik-for-leg3 .ensures _ ((back3 ((c .before .before .before .before .before .before .before .before .before .before .before .before .before .before .before))) .before .before .before .before .set-out3 .ensures),
       c .before .before .before .before .before .before .before .before .before .before .before .before .before .before .before .before .before .angles2 .given .1,
-      ← c .before .before .before .before .before .before .before .before .before .before .before .before .before .before .before .before .before .before .before .calculate-ik-for-leg2 .ensures,
+      ← c .before .before .before .before .before .before .before .before .before .before .before .before .before .before .before .before .before .before .before .calculate-ik-for-leg2 .ensures _ ((back2 ((c .before .before .before .before .before .before .before .before .before .before .before .before .before .before .before .before .before .before .before))) .before .before .before .before .before .set-out2 .ensures),
       c .before .before .before .before .before .before .before .before .before .before .before .before .before .before .before .before .before .before .before .before .before .angles .given .1,
-      ← c .before .before .before .before .before .before .before .before .before .before .before .before .before .before .before .before .before .before .before .before .before .before .before .calculate-ik-for-leg .ensures,
+      ← c .before .before .before .before .before .before .before .before .before .before .before .before .before .before .before .before .before .before .before .before .before .before .before .calculate-ik-for-leg .ensures _ ((c .before .before .before .before .before .before .before .before .before .before .before .before .before .before .before .before .before .before .before .before .before .before .before) .before .before .before .before .before .before .set-out .ensures),
     )
 
 pub calculate-ik-spec : {M : Type 1} → statement M
 calculate-ik-spec =
     tie.close
     (tie.spec
+    set-out-requires
+    set-out-requires-2
+    set-out-requires-3
+    set-out-requires-4
+    set-out-requires-5
+    set-out-requires-6
     calculate-ik-for-leg-requires
     enum-known-angles
     enum-known-side

@@ -7,47 +7,29 @@ use Rattle.legs.proofs.core.updated.Tie as tie
 cast-second : tie.Need-cast-second
 cast-second c = search needs
 
-add-third : tie.Need-add-third
-add-third c = search needs
-
 cast-third : tie.Need-cast-third
 cast-third c = search needs
 
-add-fourth : tie.Need-add-fourth
-add-fourth c = search needs
-
-add-fourth-2 : tie.Need-add-fourth-2
-add-fourth-2 c = search needs
+add-third : tie.Need-add-third
+add-third c = search needs
 
 cast-fourth : tie.Need-cast-fourth
 cast-fourth c = search needs
 
-add-fifth : tie.Need-add-fifth
-add-fifth c = search needs
-
-add-fifth-2 : tie.Need-add-fifth-2
-add-fifth-2 c = search needs
-
-add-fifth-3 : tie.Need-add-fifth-3
-add-fifth-3 c = search needs
+add-fourth : tie.Need-add-fourth
+add-fourth c = search needs
 
 cast-fifth : tie.Need-cast-fifth
 cast-fifth c = search needs
 
-add-sixth : tie.Need-add-sixth
-add-sixth c = search needs
-
-add-sixth-2 : tie.Need-add-sixth-2
-add-sixth-2 c = search needs
-
-add-sixth-3 : tie.Need-add-sixth-3
-add-sixth-3 c = search needs
-
-add-sixth-4 : tie.Need-add-sixth-4
-add-sixth-4 c = search needs
+add-fifth : tie.Need-add-fifth
+add-fifth c = search needs
 
 cast-sixth : tie.Need-cast-sixth
 cast-sixth c = search needs
+
+add-sixth : tie.Need-add-sixth
+add-sixth c = search needs
 
 array-copy-out-chosen : tie.Need-array-copy-out-chosen
 array-copy-out-chosen c = search needs
@@ -117,20 +99,14 @@ updated-spec =
     tie.close
     (tie.spec
     cast-second
-    add-third
     cast-third
-    add-fourth
-    add-fourth-2
+    add-third
     cast-fourth
-    add-fifth
-    add-fifth-2
-    add-fifth-3
+    add-fourth
     cast-fifth
-    add-sixth
-    add-sixth-2
-    add-sixth-3
-    add-sixth-4
+    add-fifth
     cast-sixth
+    add-sixth
     array-copy-out-chosen
     chosen-requires
     mul-chosen

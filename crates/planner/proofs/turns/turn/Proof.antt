@@ -5,15 +5,12 @@ use borrow.Author.Needs.{needs}
 use Rattle.planner.proofs.turns.turn.Statement.{statement}
 use Rattle.planner.proofs.turns.turn.Tie as tie
 
-cosine-requires : tie.Need-cosine-requires
-cosine-requires c κs = search needs
-
-sine-requires : tie.Need-sine-requires
-sine-requires c κs = search needs
+sine-and-cosine-requires : tie.Need-sine-and-cosine-requires
+sine-and-cosine-requires c κs = search needs
 
 returns : tie.Need-returns
 unfolding turn
-returns c = simp (nought-bits, one-bits, c .sine .ensures .0, c .before .cosine .ensures .0)
+returns c = simp (nought-bits, one-bits, c .sine-and-cosine .ensures .0, c .sine-and-cosine .ensures .1)
 
 pub turn-spec : {M : Type 1} → statement M
-turn-spec = tie.close (tie.spec cosine-requires sine-requires returns)
+turn-spec = tie.close (tie.spec sine-and-cosine-requires returns)

@@ -1,5 +1,5 @@
 -- `roots::digits::root_bits` meets its contract. What `settle` finds is the nearest root of the pattern's number, and its bits are the digits beside the power.
-use Prim.Native.Nat.{ℕ, _+_, _-_, _*_, _/_, _^_, _≤_, _<_}
+use Prim.Native.Nat.{ℕ, _+_, _-_, _*_, _/_, _%_, _^_, _≤_, _<_}
 use native.Mathlib.Omega.{arith}
 use mathlib.Core.Path.{sym, _∙_}
 use Rattle.units.specs.Patterns.{val}
@@ -11,22 +11,28 @@ use borrow.Author.Needs.{needs}
 use Rattle.roots.proofs.digits.root_bits.Statement.{statement}
 use Rattle.roots.proofs.digits.root_bits.Tie as tie
 
-abbrev power : tie.After-settle → ℕ
-power c = c .before .before .before .spread .result .p
+abbrev at-radicand : tie.After-settle → tie.After-radicand
+at-radicand c = c .before .before .before .before
 
-near : (c : tie.After-settle) → Nearest (val (c .before .before .before .before .args .b)) (c .settle .result) ((power c - 23) / 2)
+abbrev at-spread : tie.After-settle → tie.After-spread
+at-spread c = at-radicand c .before .before
+
+abbrev power : tie.After-settle → ℕ
+power c = at-spread c .spread .result .p
+
+near : (c : tie.After-settle) → Nearest (val (at-spread c .before .args .b)) (c .settle .result) ((power c - 23) / 2)
 near c =
-    let n = val (c .before .before .before .before .args .b) in
-    let x = c .before .before .before .spread in
-    let v = c .before .before .radicand in
-    nearest-of n (c .settle .result) ((x .result .p - 23) / 2) (v .result) (joined n (x .result .m) (x .result .p) (v .result) (x .ensures) (v .ensures))
+    let n = val (at-spread c .before .args .b) in
+    let x = at-spread c .spread in
+    let v = at-radicand c .radicand in
+    nearest-of n (c .settle .result) ((x .result .p - 23) / 2) (v .result) (joined n (8388608 + x .result .c % 8388608) (x .result .p) (v .result) (x .ensures) (v .ensures))
     (v .ensures .r-low) (v .ensures .r-high) (c .settle .ensures .0) (c .settle .ensures .1)
 
 few : (p : ℕ) → p ≤ 402 → (p - 23) / 2 ≤ 200
 few p h = omega arith
 
 k-few : (c : tie.After-settle) → (power c - 23) / 2 ≤ 200
-k-few c = few (power c) (c .before .before .before .spread .ensures .p-high)
+k-few c = few (power c) (at-spread c .spread .ensures .p-high)
 
 abbrev Fit : ℕ → ℕ → Type 0
 Fit q k = (q < 2 ^ 32) × (k * 8388608 + q < 2 ^ 32) × (k * 8388608 + q < 2139095040)
@@ -39,6 +45,12 @@ fit c = fits-32 (c .settle .result) ((power c - 23) / 2) (q-high (near c)) (k-fe
 
 spread-requires : tie.Need-spread-requires
 spread-requires c κs = search needs
+
+add-radicand : tie.Need-add-radicand
+add-radicand c = search needs
+
+cast-radicand : tie.Need-cast-radicand
+cast-radicand c = search needs
 
 radicand-requires : tie.Need-radicand-requires
 radicand-requires c κs = search needs
@@ -71,6 +83,8 @@ root-bits-spec =
     tie.close
     (tie.spec
     spread-requires
+    add-radicand
+    cast-radicand
     radicand-requires
     guess-requires
     settle-requires

@@ -19,35 +19,23 @@ mask-refused-requires c κs = search needs
 count-refused-requires : tie.Need-count-refused-requires
 count-refused-requires c κs = search needs
 
-unless-requires : tie.Need-unless-requires
-unless-requires c κs = search needs
-
-unless-requires-2 : tie.Need-unless-requires-2
-unless-requires-2 c κs = search needs
-
 either-requires : tie.Need-either-requires
 either-requires c κs = search needs
 
-either-requires-2 : tie.Need-either-requires-2
-either-requires-2 c κs = search needs
-
-either-requires-3 : tie.Need-either-requires-3
-either-requires-3 c κs = search needs
+first-of-requires : tie.Need-first-of-requires
+first-of-requires c κs = search needs
 
 returns : tie.Need-returns
 unfolding seenRefusal
 returns c =
     simp (
-      c .either3 .ensures,
-      c .before .either2 .ensures,
-      c .before .before .either .ensures,
-      c .before .before .before .unless2 .ensures,
-      c .before .before .before .before .unless .ensures,
-      c .before .before .before .before .before .count-refused .ensures,
-      c .before .before .before .before .before .before .mask-refused .ensures,
-      c .before .before .before .before .before .before .before .before .feet-permitted .ensures,
-      c .before .before .before .before .before .before .before .before .before .before .feet-finite .ensures,
-      c .before .before .before .before .before .before .before .before .before .before .before .foot .ensures,
+      c .first-of .ensures,
+      c .before .either .ensures,
+      c .before .before .count-refused .ensures,
+      c .before .before .before .mask-refused .ensures,
+      c .before .before .before .before .before .feet-permitted .ensures,
+      c .before .before .before .before .before .before .before .feet-finite .ensures,
+      c .before .before .before .before .before .before .before .before .foot .ensures,
     )
 
 pub refused-spec : {M : Type 1} → statement M
@@ -59,9 +47,6 @@ refused-spec =
     feet-permitted-requires
     mask-refused-requires
     count-refused-requires
-    unless-requires
-    unless-requires-2
     either-requires
-    either-requires-2
-    either-requires-3
+    first-of-requires
     returns)

@@ -6,7 +6,7 @@ use lib.Dec.{T}
 use lib.Ieee.{Float, binary32, fits, ofBits}
 use Rattle.sines.specs.How.{fixedCosine, centred}
 use Rattle.sines.proofs.Values.{argument, no-nan}
-use Rattle.sines.proofs.Whole.{Result, cosine-result}
+use Rattle.sines.proofs.Whole.{cosine-fits}
 use Rattle.sines.proofs.Sharp.{cosine-tiny, cosine-else}
 use Rattle.sines.proofs.core.inside_cosine.Statement.{statement}
 use Rattle.sines.proofs.core.inside_cosine.Tie as tie
@@ -30,9 +30,7 @@ cosine-requires c κs = search needs
 
 centred-requires : tie.Need-centred-requires
 centred-requires c κs =
-    let r = cosine-result (c .before .fixed-of .result) (c .before .fixed-of .ensures .1) in
-    let e = sym (c .cosine .ensures) in
-    (subst (λ (w : ℕ). 4194304 ≤ w) e (r .least), subst (λ (w : ℕ). w ≤ 37748736) e (r .most))
+    cosine-fits (c .before .fixed-of .result) (c .cosine .result) (c .before .fixed-of .ensures .1) (c .cosine .ensures)
 
 returns-2 : tie.Need-returns-2
 returns-2 c =

@@ -1,13 +1,13 @@
 -- `sines::core::inside_sine` meets its contract. A permitted argument has a bit pattern of at most that of 16, and the whole-number sine stays from -1 to 1.
 use borrow.Author.Needs.{needs}
 use mathlib.Core.Path.{_≡_, sym, ap, _∙_, subst}
-use Prim.Native.Nat.{ℕ, _≤_, _<_}
+use mathlib.Core.Bool.{cond}
 use lib.Dec.{T}
-use lib.Ieee.{Float, binary32, fits, neg, toBits}
-use Rattle.sines.specs.How.{bare, fixed, fixedSine, centred}
+use lib.Ieee.{Float, binary32, fits, neg}
+use Rattle.sines.specs.How.{negative, fixedSine, centred}
 use Rattle.sines.proofs.Values.{argument, no-nan}
-use Rattle.sines.proofs.Whole.{Result, sine-result}
-use Rattle.sines.proofs.Sharp.{sine-tiny, sine-negative, sine-positive}
+use Rattle.sines.proofs.Whole.{sine-fits}
+use Rattle.sines.proofs.Sharp.{sine-tiny, sine-else}
 use Rattle.sines.proofs.core.inside_sine.Statement.{statement}
 use Rattle.sines.proofs.core.inside_sine.Tie as tie
 
@@ -28,24 +28,18 @@ sine-requires : tie.Need-sine-requires
 sine-requires c κs = search needs
 
 centred-requires : tie.Need-centred-requires
-centred-requires c κs =
-    let r = sine-result (c .before .fixed-of .result) (c .before .fixed-of .ensures .1) in
-    let e = sym (c .sine .ensures) in
-    (subst (λ (w : ℕ). 4194304 ≤ w) e (r .least), subst (λ (w : ℕ). w ≤ 37748736) e (r .most))
+centred-requires c κs = sine-fits (c .before .fixed-of .result) (c .sine .result) (c .before .fixed-of .ensures .1) (c .sine .ensures)
+
+signed-requires : tie.Need-signed-requires
+signed-requires c κs = search needs
 
 returns-2 : tie.Need-returns-2
 returns-2 c =
     let b = c .before .before .before in
     let x = b .before .before .args .x in
-    let e : c .before .centred .result ≡ centred (fixedSine (fixed (bare x))) = c .before .centred .ensures ∙ ap centred (c .before .before .sine .ensures ∙ ap fixedSine (b .fixed-of .ensures .0)) in
-    ap neg e ∙ sine-negative x (b .before .if1 .left) (c .if2 .taken)
-
-returns-3 : tie.Need-returns-3
-returns-3 c =
-    let b = c .before .before .before in
-    let x = b .before .before .args .x in
-    let e : c .before .centred .result ≡ centred (fixedSine (fixed (bare x))) = c .before .centred .ensures ∙ ap centred (c .before .before .sine .ensures ∙ ap fixedSine (b .fixed-of .ensures .0)) in
-    e ∙ sine-positive x (b .before .if1 .left) (c .if2 .left)
+    c .signed .ensures
+    ∙ ap (λ (y : Float). cond (negative x) (neg y) y) (c .before .centred .ensures ∙ ap centred (c .before .before .sine .ensures ∙ ap fixedSine (b .fixed-of .ensures .0)))
+    ∙ sine-else x (b .before .if1 .left)
 
 pub inside-sine-spec : {M : Type 1} → statement M
-inside-sine-spec = tie.close (tie.spec float-to-bits-b returns fixed-of-requires sine-requires centred-requires returns-2 returns-3)
+inside-sine-spec = tie.close (tie.spec float-to-bits-b returns fixed-of-requires sine-requires centred-requires signed-requires returns-2)

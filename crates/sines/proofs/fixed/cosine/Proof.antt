@@ -1,38 +1,18 @@
--- `sines::fixed::cosine` meets its contract: the two halves of the entry are the sine and the cosine at its place, and the parts ensure the rest.
+-- `sines::fixed::cosine` meets its contract: the sum of the parts.
 use borrow.Author.Needs.{needs}
-use Prim.Native.Nat.{ℕ, _/_, _<_}
-use native.Mathlib.Omega.{arith}
-use Rattle.sines.specs.How.{fixedCosine}
-use Rattle.sines.proofs.Entries.{high-half, low-half, high-small, low-small}
+use mathlib.Core.Path.{_∙_}
+use Rattle.sines.proofs.Entries.{cosine-of-parts}
 use Rattle.sines.proofs.fixed.cosine.Statement.{statement}
 use Rattle.sines.proofs.fixed.cosine.Tie as tie
 
-entry-requires : tie.Need-entry-requires
-entry-requires c κs = search needs
-
-square-of-requires : tie.Need-square-of-requires
-square-of-requires c κs = search needs
-
-even-part-requires : tie.Need-even-part-requires
-even-part-requires c κs = search needs
-
-odd-part-requires : tie.Need-odd-part-requires
-odd-part-requires c κs = search needs
+taken-apart-requires : tie.Need-taken-apart-requires
+taken-apart-requires c κs = search needs
 
 cosine-sum-requires : tie.Need-cosine-sum-requires
-cosine-sum-requires c κs =
-    let t = c .before .before .before in
-    let j = t .before .args .x / 4294967296 in
-    let h : j < 129 = entry-requires (t .before) κs in
-    (high-small j (t .entry .result) h (t .entry .ensures), low-small j (t .entry .result) h (t .entry .ensures), c .before .even-part .ensures .1, c .odd-part .ensures .1)
+cosine-sum-requires c κs = search needs
 
 returns : tie.Need-returns
-unfolding fixedCosine
-returns c =
-    let t = c .before .before .before .before in
-    let j = t .before .args .x / 4294967296 in
-    let h : j < 129 = entry-requires (t .before) tt in
-    cc (high-half j (t .entry .result) h (t .entry .ensures), low-half j (t .entry .result) h (t .entry .ensures))
+returns c = c .cosine-sum .ensures ∙ cosine-of-parts _ _ _ _ _ (c .before .taken-apart .ensures)
 
 pub cosine-spec : {M : Type 1} → statement M
-cosine-spec = tie.close (tie.spec entry-requires square-of-requires even-part-requires odd-part-requires cosine-sum-requires returns)
+cosine-spec = tie.close (tie.spec taken-apart-requires cosine-sum-requires returns)

@@ -1,57 +1,24 @@
 -- `steps::EvenStepIterator::next` meets its contract: refused, or what the core gives.
 use Rattle.steps.specs.Entries.{nextEvenTold}
-use Rattle.steps.specs.Refusals.{atRefusal}
 use borrow.Author.Tests.{eq-eqb, ne-eqb}
 use borrow.Author.Needs.{needs}
 use Rattle.steps.proofs.EvenStepIterator.next.Statement.{statement}
 use Rattle.steps.proofs.EvenStepIterator.next.Tie as tie
 
-lift-refused-requires : tie.Need-lift-refused-requires
-lift-refused-requires c κs = search needs
-
-is-elapsed-requires : tie.Need-is-elapsed-requires
-is-elapsed-requires c κs = search needs
-
-unless-requires : tie.Need-unless-requires
-unless-requires c κs = search needs
-
-either-requires : tie.Need-either-requires
-either-requires c κs = search needs
+at-refused-requires : tie.Need-at-refused-requires
+at-refused-requires c κs = search needs
 
 next-even-requires : tie.Need-next-even-requires
 next-even-requires c κs = search needs
 
 returns : tie.Need-returns
-unfolding nextEvenTold atRefusal
+unfolding nextEvenTold
 returns c =
-    simp (
-      c .next-even .ensures,
-      eq-eqb _ 0 (c .before .if1 .taken),
-      ← c .before .before .either .ensures,
-      ← c .before .before .before .unless .ensures,
-      ← c .before .before .before .before .is-elapsed .ensures,
-      ← c .before .before .before .before .before .lift-refused .ensures,
-    )
+    simp (c .next-even .ensures, ← c .before .before .at-refused .ensures, eq-eqb _ 0 (c .before .if1 .taken))
 
 returns-2 : tie.Need-returns-2
-unfolding nextEvenTold atRefusal
-returns-2 c =
-    simp (
-      ne-eqb _ 0 (c .if1 .left),
-      ← c .before .either .ensures,
-      ← c .before .before .unless .ensures,
-      ← c .before .before .before .is-elapsed .ensures,
-      ← c .before .before .before .before .lift-refused .ensures,
-    )
+unfolding nextEvenTold
+returns-2 c = simp (← c .before .at-refused .ensures, ne-eqb _ 0 (c .if1 .left))
 
 pub next-spec : {M : Type 1} → statement M
-next-spec =
-    tie.close
-    (tie.spec
-    lift-refused-requires
-    is-elapsed-requires
-    unless-requires
-    either-requires
-    next-even-requires
-    returns
-    returns-2)
+next-spec = tie.close (tie.spec at-refused-requires next-even-requires returns returns-2)
