@@ -1,0 +1,170 @@
+#!/usr/bin/env python3
+"""board.py NAME LIBRARY WORDS
+What a library compiled for a board takes there: bytes by room, symbols from outside, the deepest stack, and the bytes of the
+four angle functions and the root. WORDS are the compiler's, for linking. Needs the binutils of gcc-arm-none-eabi."""
+import collections
+import os
+import re
+import subprocess
+import sys
+import tempfile
+
+# An entry's own code counts with its room; what it calls has the room's name in its symbol.
+ROOM = {
+    "absolute": "numbers", "min": "numbers", "max": "numbers", "pattern": "numbers", "square_root": "roots",
+    "sine": "sines", "cosine": "sines", "arc_cosine": "arcs", "atan2": "arcs", "merge": "legs", "select": "legs",
+    "update": "rows", "move": "moves", "move_vector": "moves", "move_feet": "moves", "point_iter": "moves",
+    "next_point": "moves", "feet_iter": "moves", "next_feet": "moves", "longest_distance": "moves", "walk": "walks",
+    "walk_feet": "walks", "invert": "commands", "flag": "commands", "default": "commands", "new": "commands",
+    "command": "commands", "should_move": "commands", "plan": "planner", "ik": "joints", "fk": "joints",
+}
+FIVE = ["probe_sine", "probe_cosine", "probe_arc_cosine", "probe_atan2", "probe_square_root"]
+GOAL = 6 * 1024
+DOUBLE = re.compile(r"__aeabi_(c?d|[a-z]+2d)|df")  # __aeabi_dadd, __aeabi_cdcmple, __aeabi_f2d, __adddf3, __truncdfsf2
+HEAP = re.compile(r"alloc|free|sbrk")
+
+
+def tool(name, *words):
+    return subprocess.run(["arm-none-eabi-" + name, *words], capture_output=True, text=True, check=True).stdout
+
+
+def room(name):
+    if name.startswith("probe_"):
+        return ROOM.get(name[6:], "steps")
+    return name.split("::")[0] if "::" in name else "shared constants"
+
+
+def sections(path):
+    """Name, bytes and whether it is code, of each section that a board's flash would hold."""
+    lines = tool("objdump", "-h", "-w", path).splitlines()
+    for line in lines:
+        f = line.split()
+        if len(f) > 7 and f[0].isdigit() and "ALLOC" in line and "CONTENTS" in line and not f[1].startswith(".ARM."):
+            yield f[1], int(f[2], 16), "CODE" in line
+
+
+def owner(section):
+    return re.sub(r"^\.(text|rodata)\.(\.Lswitch\.table\.)?(str[0-9.]*|cst[0-9.]*)?", "", section)
+
+
+def largest(path):
+    most = sorted(((size, name) for name, size, _ in sections(path)), reverse=True)[:6]
+    print("  largest: " + ", ".join(f"{owner(name)} {size}" for size, name in most))
+
+
+def by_room(path):
+    code, table = collections.Counter(), collections.Counter()
+    for name, size, is_code in sections(path):
+        if size:
+            (code if is_code else table)[room(owner(name))] += size
+    print(f"  {'room':18} {'code':>7} {'tables':>7}")
+    for r in sorted(set(code) | set(table), key=lambda r: -code[r] - table[r]):
+        print(f"  {r:18} {code[r]:7} {table[r]:7}")
+    print(f"  {'all':18} {sum(code.values()):7} {sum(table.values()):7}")
+
+
+def wanted(path):
+    names = sorted({line.split()[-1] for line in tool("nm", "-u", path).splitlines() if " U " in line})
+    print("  from outside:", ", ".join(names) or "nothing")
+    print("  f64 routines among them:", ", ".join(n for n in names if DOUBLE.search(n)) or "none")
+    print("  heap among them:", ", ".join(n for n in names if HEAP.search(n)) or "none")
+
+
+def link(words, path, out, keep, libraries):
+    roots = [f"-Wl,-u,{k}" for k in keep]
+    subprocess.run(["arm-none-eabi-gcc", *words.split(), "-nostdlib", "-nostartfiles", "-Wl,--gc-sections", "-Wl,-e," + keep[0],
+                    "-Wl,--no-warn-rwx-segments,-z,noexecstack", *roots, path, *libraries, "-o", out], check=True)
+
+
+def uleb(data, at):
+    value = shift = 0
+    while True:
+        b = data[at]
+        value |= (b & 127) << shift
+        at, shift = at + 1, shift + 7
+        if b < 128:
+            return value, at
+
+
+def told_frames(elf, scratch):
+    """The frames that the compiler wrote down, by address."""
+    dump = os.path.join(scratch, "stack")
+    tool("objcopy", "-O", "binary", "--only-section=.stack_sizes", "--set-section-flags", ".stack_sizes=alloc", elf, dump)
+    data, at, frames = open(dump, "rb").read(), 0, {}
+    while at < len(data):
+        address = int.from_bytes(data[at:at + 4], "little") & ~1
+        frames[address], at = uleb(data, at + 4)
+    return frames
+
+
+def pushed(text):
+    """Bytes that one instruction of a routine from outside takes from the stack."""
+    m = re.search(r"\t(push|stmdb\tsp!,)\s*\{(.*)\}", text)
+    if m:
+        count = 0
+        for part in m.group(2).split(","):
+            ends = re.findall(r"r(\d+)", part)
+            count += int(ends[1]) - int(ends[0]) + 1 if len(ends) == 2 else 1
+        return 4 * count
+    m = re.search(r"\tsub(?:\.w|w)?\tsp, (?:sp, )?#(\d+)", text)
+    return int(m.group(1)) if m else 0
+
+
+def deepest(elf, scratch):
+    frames, calls, name_at, here = {}, collections.defaultdict(set), {}, None
+    told = told_frames(elf, scratch)
+    for line in tool("objdump", "-d", "-w", elf).splitlines():
+        head = re.match(r"([0-9a-f]+) <(.*)>:$", line)
+        if head:
+            here = int(head.group(1), 16)
+            name_at[here] = head.group(2)
+            frames[here] = told.get(here, 0)
+            continue
+        if here is None:
+            continue
+        if here not in told:
+            frames[here] += pushed(line)
+        to = re.search(r"\t(?:bl|blx|b|b\.n|b\.w)\t([0-9a-f]+) <([^>+]*)>", line)
+        if to and int(to.group(1), 16) != here:
+            calls[here].add(int(to.group(1), 16))
+        if re.search(r"\tblx?\tr\d", line):
+            print("  an indirect call in", name_at[here])
+    deep, path = {}, {}
+
+    def depth(f, above=()):
+        if f in above:
+            sys.exit("board: a call leads back to itself: " + name_at[f])
+        if f not in deep:
+            below = max(((depth(g, above + (f,)), g) for g in calls[f] if g in frames), default=(0, None))
+            deep[f], path[f] = frames[f] + below[0], below[1]
+        return deep[f]
+
+    top = max((depth(f), f) for f, n in name_at.items() if n.startswith("probe_"))
+    chain, f = [], top[1]
+    while f is not None:
+        chain.append(f"{name_at[f]} {frames[f]}")
+        f = path[f]
+    print(f"  deepest stack: {top[0]} bytes: " + ", ".join(chain))
+
+
+def main():
+    if len(sys.argv) != 4:
+        sys.exit(__doc__)
+    name, path, words = sys.argv[1:]
+    print(f"{name}, -Os ({words})")
+    by_room(path)
+    largest(path)
+    wanted(path)
+    entries = sorted(set(re.findall(r" T (probe_\w+)", tool("nm", path))))
+    with tempfile.TemporaryDirectory() as scratch:
+        whole, five = os.path.join(scratch, "whole"), os.path.join(scratch, "five")
+        link(words, path, whole, entries, ["-lc", "-lgcc"])
+        deepest(whole, scratch)
+        link(words, path, five, FIVE, ["-Wl,--unresolved-symbols=ignore-all"])
+        sizes = {is_code: sum(s for _, s, c in sections(five) if c == is_code) for is_code in (True, False)}
+    total = sizes[True] + sizes[False]
+    print(f"{name}: the four angle functions and the root: {sizes[True]} code + {sizes[False]} tables = {total} bytes,"
+          f" {total / 1024:.2f} KiB" + (f", goal {GOAL}: {'met' if total < GOAL else 'missed by ' + str(total - GOAL)}" if "M4" in name else ""))
+
+
+main()

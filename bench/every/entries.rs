@@ -1,0 +1,530 @@
+// Each entry: its row of the table for each float, what else it takes, and a check that calls it and judges its answer.
+use crate::judge::*;
+
+extern "C" {
+    fn probe_min(x: f32, y: f32, out: &mut f32) -> u32;
+    fn probe_max(x: f32, y: f32, out: &mut f32) -> u32;
+    fn probe_sine(x: f32, out: &mut f32) -> u32;
+    fn probe_cosine(x: f32, out: &mut f32) -> u32;
+    fn probe_arc_cosine(x: f32, out: &mut f32) -> u32;
+    fn probe_atan2(y: f32, x: f32, out: &mut f32) -> u32;
+    fn probe_merge(s: *const f32, n: usize, mask: u32, out: *mut f32, m: usize) -> u32;
+    fn probe_select(s: *const f32, n: usize, mask: u32, out: *mut f32, m: usize, len: &mut usize) -> u32;
+    fn probe_update(s: *const f32, n: usize, values: *const f32, v: usize, count: usize, mask: u32, out: *mut f32, m: usize) -> u32;
+    fn probe_move(s: *const f32, n: usize, out: *mut f32, m: usize) -> u32;
+    fn probe_move_vector(s: *const f32, n: usize, out: *mut f32, m: usize) -> u32;
+    fn probe_point_iter(s: *const f32, n: usize, out: *mut f32, m: usize, max_move: &mut f32) -> u32;
+    fn probe_next_point(s: *const f32, n: usize, point: *mut f32, k: usize, out: *mut f32, m: usize, max_move: &mut f32) -> u32;
+    fn probe_move_feet(s: *const f32, n: usize, out: *mut f32, m: usize) -> u32;
+    fn probe_feet_iter(s: *const f32, n: usize, last: *mut f32, k: usize, target: *mut f32, m: usize, max_move: &mut f32) -> u32;
+    fn probe_next_feet(s: *const f32, n: usize, out: *mut f32, j: usize, last: *mut f32, k: usize, target: *mut f32, m: usize, max_move: &mut f32) -> u32;
+    fn probe_longest_distance(s: *const f32, n: usize, out: &mut f32) -> u32;
+    fn probe_walk(s: *const f32, n: usize) -> u64;
+    fn probe_walk_feet(s: *const f32, n: usize) -> u64;
+    fn probe_new(x: f32, y: f32, rotation: f32, out: *mut f32, m: usize, s: &mut u64, ns: &mut u32) -> u32;
+    fn probe_command(f: *const f32, n: usize, aggressive: u32, ps: u64, pn: u32, out: *mut f32, m: usize, s: &mut u64, ns: &mut u32) -> u32;
+    fn probe_should_move(f: *const f32, n: usize, aggressive: u32, ps: u64, pn: u32) -> u32;
+    fn probe_timed_progress(es: u64, en: u32, ps: u64, pn: u32, out: &mut f32) -> u32;
+    fn probe_even_progress(es: u64, en: u32, ps: u64, pn: u32, out: &mut f32) -> u32;
+    fn probe_step_iter(s: *const f32, n: usize, t: u32, a: u32, o: *mut f32, i: usize, p: *mut f32, j: usize, q: *mut f32, k: usize, max_move: &mut f32, height: &mut f32) -> u32;
+    fn probe_timed_iter(s: *const f32, n: usize, t: u32, a: u32, ps: u64, pn: u32, o: *mut f32, i: usize, p: *mut f32, j: usize, q: *mut f32, k: usize, height: &mut f32, descent: &mut f32, s: &mut u64, ns: &mut u32) -> u32;
+    fn probe_even_iter(s: *const f32, n: usize, t: u32, a: u32, ps: u64, pn: u32, o: *mut f32, i: usize, p: *mut f32, j: usize, q: *mut f32, k: usize, height: &mut f32, descent: &mut f32, s: &mut u64, ns: &mut u32) -> u32;
+    fn probe_step(s: *const f32, n: usize, t: u32, a: u32, out: *mut f32, m: usize) -> u32;
+    fn probe_timed_step(s: *const f32, n: usize, t: u32, a: u32, es: u64, en: u32, ps: u64, pn: u32, out: *mut f32, m: usize) -> u32;
+    fn probe_even_step(s: *const f32, n: usize, t: u32, a: u32, es: u64, en: u32, ps: u64, pn: u32, out: *mut f32, m: usize) -> u32;
+    fn probe_plan(s: *const f32, n: usize, t: u32, a: u32, seconds: u64, nanoseconds: u32, out: *mut f32, m: usize) -> u32;
+    fn probe_ik(s: *const f32, n: usize, out: *mut f32, m: usize) -> u32;
+    fn probe_fk(s: *const f32, n: usize, out: *mut f32, m: usize) -> u32;
+}
+
+/// What an entry is called with. Lent values of an update stand after the feet, at 18.
+pub struct Input {
+    pub f: [f32; 64],
+    pub mask: u32,
+    pub count: usize,
+    pub tripod: u32,
+    pub aggressive: u32,
+    pub elapsed: Time,
+    pub period: Time,
+}
+
+impl Input {
+    fn at(&self, k: usize) -> *const f32 {
+        self.f[k..].as_ptr()
+    }
+    fn point(&self, k: usize) -> Point {
+        [self.f[k], self.f[k + 1], self.f[k + 2]]
+    }
+    fn feet(&self, k: usize) -> Feet {
+        std::array::from_fn(|l| self.point(k + 3 * l))
+    }
+    fn course(&self) -> Course {
+        Course { start: self.feet(0), last: self.feet(18), target: self.feet(36) }
+    }
+    fn body(&self) -> Body {
+        std::array::from_fn(|k| self.f[18 + k])
+    }
+    fn leg(&self, l: usize) -> Leg {
+        std::array::from_fn(|k| self.f[23 + 6 * l + k])
+    }
+    /// The lent points: eight of the input, then the first again and again.
+    fn lent(&self) -> Vec<Point> {
+        (0..self.count.min(64)).map(|i| self.point(18 + 3 * (if i < 8 { i } else { 0 }))).collect()
+    }
+}
+
+/// The library's own angle functions. What it hands them is always permitted; else the NaN is found in the answer.
+struct Ours;
+
+fn value(f: impl Fn(&mut f32) -> u32) -> f32 {
+    let mut out = f32::NAN;
+    f(&mut out);
+    out
+}
+
+impl Angles for Ours {
+    fn sine(x: f32) -> f32 {
+        value(|out| unsafe { probe_sine(x, out) })
+    }
+    fn cosine(x: f32) -> f32 {
+        value(|out| unsafe { probe_cosine(x, out) })
+    }
+    fn arc_cosine(x: f32) -> f32 {
+        value(|out| unsafe { probe_arc_cosine(x, out) })
+    }
+    fn atan2(y: f32, x: f32) -> f32 {
+        value(|out| unsafe { probe_atan2(y, x, out) })
+    }
+}
+
+// ---- judging
+
+/// What an output holds before the call: a NaN's bits that no entry makes.
+const HELD: f32 = f32::from_bits(0x7fab_cdef);
+
+fn held(out: &[f32]) -> bool {
+    out.iter().all(|x| x.to_bits() == HELD.to_bits())
+}
+
+fn same(a: &[f32], b: &[f32]) -> bool {
+    a.len() == b.len() && a.iter().zip(b).all(|(x, y)| x.to_bits() == y.to_bits())
+}
+
+fn is_at(out: &[f32], feet: &Feet) -> bool {
+    same(out, feet.as_flattened())
+}
+
+/// The largest distances from the reading with Rust's functions.
+#[derive(Default)]
+pub struct Worst(pub f64);
+
+impl Worst {
+    fn near(&mut self, a: f32, b: f32, bound: f64) -> bool {
+        let d = (a as f64 - b as f64).abs();
+        self.0 = self.0.max(d);
+        d <= bound
+    }
+}
+
+type Check = fn(&Input, u32, &mut Worst) -> bool;
+
+fn number(n: u32, out: f32, want: u32, answer: impl Fn() -> f32) -> bool {
+    n == want && if want == 0 { out.to_bits() == answer().to_bits() } else { held(&[out]) }
+}
+
+fn min(i: &Input, want: u32, _: &mut Worst) -> bool {
+    let (x, y, mut out) = (i.f[0], i.f[1], HELD);
+    let n = unsafe { probe_min(x, y, &mut out) };
+    number(n, out, want, || if (y as f64) < x as f64 { y } else { x })
+}
+
+fn max(i: &Input, want: u32, _: &mut Worst) -> bool {
+    let (x, y, mut out) = (i.f[0], i.f[1], HELD);
+    let n = unsafe { probe_max(x, y, &mut out) };
+    number(n, out, want, || if (y as f64) > x as f64 { y } else { x })
+}
+
+fn atan2(i: &Input, want: u32, w: &mut Worst) -> bool {
+    let (y, x, mut out) = (i.f[0], i.f[1], HELD);
+    let n = unsafe { probe_atan2(y, x, &mut out) };
+    if n != want || want != 0 {
+        return n == want && held(&[out]);
+    }
+    if y == 0.0 && x == 0.0 {
+        let magnitude = if x.is_sign_negative() { P } else { 0.0 };
+        return out.to_bits() == magnitude.copysign(y).to_bits();
+    }
+    let d = (out as f64 - (y as f64).atan2(x as f64)).abs();
+    w.0 = w.0.max(d);
+    d <= 1.0 / 262144.0 && out.is_sign_negative() == y.is_sign_negative() && out.abs() <= P
+}
+
+fn merge(i: &Input, want: u32, _: &mut Worst) -> bool {
+    let mut out = [HELD; 18];
+    let n = unsafe { probe_merge(i.at(0), 36, i.mask, out.as_mut_ptr(), 18) };
+    n == want && if want == 0 { is_at(&out, &merged(i.feet(0), i.feet(18), i.mask)) } else { held(&out) }
+}
+
+fn select(i: &Input, want: u32, _: &mut Worst) -> bool {
+    let (mut out, mut len) = ([HELD; 18], 77);
+    let n = unsafe { probe_select(i.at(0), 18, i.mask, out.as_mut_ptr(), 18, &mut len) };
+    if n != want || want != 0 {
+        return n == want && held(&out) && len == 77;
+    }
+    let points = selected(i.feet(0), i.mask);
+    len == points.len() && same(&out[..3 * len], points.as_flattened()) && out[3 * len..].iter().all(|x| x.to_bits() == 0)
+}
+
+fn update(i: &Input, want: u32, _: &mut Worst) -> bool {
+    let mut out = [HELD; 18];
+    let n = unsafe { probe_update(i.at(0), 18, i.at(18), 24, i.count, i.mask, out.as_mut_ptr(), 18) };
+    n == want && if want == 0 { is_at(&out, &updated(i.feet(0), &i.lent(), i.mask)) } else { held(&out) }
+}
+
+fn one_move(i: &Input, n: u32, want: u32, out: &[f32]) -> bool {
+    if want != 0 {
+        return n == want && held(out);
+    }
+    let (p, moved) = towards(i.point(0), i.point(3), i.f[6]);
+    n == 256 * moved as u32 && same(out, &p)
+}
+
+fn move_point(i: &Input, want: u32, _: &mut Worst) -> bool {
+    let mut out = [HELD; 3];
+    let n = unsafe { probe_move(i.at(0), 7, out.as_mut_ptr(), 3) };
+    one_move(i, n, want, &out)
+}
+
+fn move_vector(i: &Input, want: u32, _: &mut Worst) -> bool {
+    let mut out = [HELD; 3];
+    let n = unsafe { probe_move_vector(i.at(0), 7, out.as_mut_ptr(), 3) };
+    one_move(i, n, want, &out)
+}
+
+/// A point sets out, and steps once.
+fn point_iter(i: &Input, want: u32, _: &mut Worst) -> bool {
+    let (mut out, mut m) = ([HELD; 6], HELD);
+    let n = unsafe { probe_point_iter(i.at(0), 7, out.as_mut_ptr(), 6, &mut m) };
+    n == want && if want == 0 { same(&out, &i.f[..6]) && same(&[m], &i.f[6..7]) } else { held(&out) && held(&[m]) }
+}
+
+fn next_point(i: &Input, want: u32, _: &mut Worst) -> bool {
+    let (mut point, mut out, mut m) = ([HELD; 3], [HELD; 6], HELD);
+    let n = unsafe { probe_next_point(i.at(0), 7, point.as_mut_ptr(), 3, out.as_mut_ptr(), 6, &mut m) };
+    let (p, moved) = if want == 0 { towards(i.point(0), i.point(3), i.f[6]) } else { ([0.0; 3], false) };
+    if !moved {
+        return n == want && held(&point) && held(&out) && held(&[m]);
+    }
+    n == 256 && same(&point, &p) && same(&out[..3], &p) && same(&out[3..], &i.f[3..6]) && same(&[m], &i.f[6..7])
+}
+
+fn move_feet(i: &Input, want: u32, _: &mut Worst) -> bool {
+    let mut out = [HELD; 18];
+    let n = unsafe { probe_move_feet(i.at(0), 37, out.as_mut_ptr(), 18) };
+    if want != 0 {
+        return n == want && held(&out);
+    }
+    let (feet, moved) = feet_towards(i.feet(0), i.feet(18), i.f[36]);
+    n == 256 * moved as u32 && is_at(&out, &feet)
+}
+
+fn feet_iter(i: &Input, want: u32, _: &mut Worst) -> bool {
+    let (mut last, mut target, mut m) = ([HELD; 18], [HELD; 18], HELD);
+    let n = unsafe { probe_feet_iter(i.at(0), 37, last.as_mut_ptr(), 18, target.as_mut_ptr(), 18, &mut m) };
+    if want != 0 {
+        return n == want && held(&last) && held(&target) && held(&[m]);
+    }
+    n == 0 && same(&last, &i.f[..18]) && same(&target, &i.f[18..36]) && same(&[m], &i.f[36..37])
+}
+
+fn next_feet(i: &Input, want: u32, _: &mut Worst) -> bool {
+    let (mut out, mut last, mut target, mut m) = ([HELD; 18], [HELD; 18], [HELD; 18], HELD);
+    let n = unsafe { probe_next_feet(i.at(0), 37, out.as_mut_ptr(), 18, last.as_mut_ptr(), 18, target.as_mut_ptr(), 18, &mut m) };
+    let (feet, moved) = if want == 0 { feet_towards(i.feet(0), i.feet(18), i.f[36]) } else { (i.feet(0), false) };
+    if !moved {
+        return n == want && held(&out) && held(&last) && held(&target) && held(&[m]);
+    }
+    n == 256 && is_at(&out, &feet) && is_at(&last, &feet) && same(&target, &i.f[18..36]) && same(&[m], &i.f[36..37])
+}
+
+fn longest_distance(i: &Input, want: u32, _: &mut Worst) -> bool {
+    let mut out = HELD;
+    let n = unsafe { probe_longest_distance(i.at(0), 36, &mut out) };
+    number(n, out, want, || longest(i.feet(0), i.feet(18)))
+}
+
+fn one_walk(i: &Input, want: u32, _: &mut Worst) -> bool {
+    let n = unsafe { probe_walk(i.at(0), 7) };
+    n == if want == 0 { walk(i.f[6], i.point(0), i.point(3)) } else { (want as u64) << 32 }
+}
+
+fn six_walks(i: &Input, want: u32, _: &mut Worst) -> bool {
+    let n = unsafe { probe_walk_feet(i.at(0), 37) };
+    if want != 0 {
+        return n == (want as u64) << 32;
+    }
+    let (start, target) = (i.feet(0), i.feet(18));
+    Some(n) == (0..6).map(|l| walk(i.f[36], start[l], target[l])).max()
+}
+
+fn new(i: &Input, want: u32, _: &mut Worst) -> bool {
+    let (mut out, mut s, mut ns) = ([HELD; 4], 77, 78);
+    let n = unsafe { probe_new(i.f[0], i.f[1], i.f[2], out.as_mut_ptr(), 4, &mut s, &mut ns) };
+    if want != 0 {
+        return n == want && held(&out) && (s, ns) == (77, 78);
+    }
+    n == 0 && same(&out[..3], &i.f[..3]) && out[3].to_bits() == 0.03f32.to_bits() && (s, ns) == (0, 600_000_000)
+}
+
+fn command(i: &Input, want: u32, _: &mut Worst) -> bool {
+    let (mut out, mut s, mut ns) = ([HELD; 4], 77, 78);
+    let n = unsafe { probe_command(i.at(0), 4, i.aggressive, i.period.s, i.period.ns, out.as_mut_ptr(), 4, &mut s, &mut ns) };
+    if want != 0 {
+        return n == want && held(&out) && (s, ns) == (77, 78);
+    }
+    n == 256 * i.aggressive && same(&out, &i.f[..4]) && (s, ns) == (i.period.s, i.period.ns)
+}
+
+fn should_move(i: &Input, want: u32, _: &mut Worst) -> bool {
+    let n = unsafe { probe_should_move(i.at(0), 4, i.aggressive, i.period.s, i.period.ns) };
+    if want != 0 {
+        return n == want;
+    }
+    n == 256 * i.f[..3].iter().any(|x| x.abs() >= f32::EPSILON) as u32
+}
+
+fn timed(i: &Input, want: u32, _: &mut Worst) -> bool {
+    let mut out = HELD;
+    let n = unsafe { probe_timed_progress(i.elapsed.s, i.elapsed.ns, i.period.s, i.period.ns, &mut out) };
+    number(n, out, want, || timed_progress(i.elapsed, i.period))
+}
+
+fn even(i: &Input, want: u32, _: &mut Worst) -> bool {
+    let mut out = HELD;
+    let n = unsafe { probe_even_progress(i.elapsed.s, i.elapsed.ns, i.period.s, i.period.ns, &mut out) };
+    number(n, out, want, || even_progress(i.elapsed, i.period))
+}
+
+/// A state that set out: start, last, target, two floats; the marks of tripod and lift.
+fn set_out(i: &Input, n: u32, want: u32, rows: &[[f32; 18]; 3], two: &[f32]) -> bool {
+    if want != 0 {
+        return n == want && held(rows.as_flattened()) && held(two);
+    }
+    n == 256 * i.tripod + 512 * i.aggressive
+        && same(&rows[0], &i.f[..18])
+        && same(&rows[1], &i.f[..18])
+        && same(&rows[2], &i.f[18..36])
+        && same(two, &i.f[36..38])
+}
+
+fn step_iter(i: &Input, want: u32, _: &mut Worst) -> bool {
+    let mut r = [[HELD; 18]; 3];
+    let (mut m, mut h) = (HELD, HELD);
+    let [a, b, c] = &mut r;
+    let n = unsafe { probe_step_iter(i.at(0), 38, i.tripod, i.aggressive, a.as_mut_ptr(), 18, b.as_mut_ptr(), 18, c.as_mut_ptr(), 18, &mut m, &mut h) };
+    set_out(i, n, want, &r, &[m, h])
+}
+
+fn timed_iter(i: &Input, want: u32, _: &mut Worst) -> bool {
+    let mut r = [[HELD; 18]; 3];
+    let (mut h, mut d, mut s, mut ns) = (HELD, HELD, 77, 78);
+    let [a, b, c] = &mut r;
+    let n = unsafe {
+        probe_timed_iter(i.at(0), 38, i.tripod, i.aggressive, i.period.s, i.period.ns, a.as_mut_ptr(), 18, b.as_mut_ptr(), 18, c.as_mut_ptr(), 18, &mut h, &mut d, &mut s, &mut ns)
+    };
+    set_out(i, n, want, &r, &[h, d]) && (s, ns) == if want == 0 { (i.period.s, i.period.ns) } else { (77, 78) }
+}
+
+fn even_iter(i: &Input, want: u32, _: &mut Worst) -> bool {
+    let mut r = [[HELD; 18]; 3];
+    let (mut h, mut d, mut s, mut ns) = (HELD, HELD, 77, 78);
+    let [a, b, c] = &mut r;
+    let n = unsafe {
+        probe_even_iter(i.at(0), 38, i.tripod, i.aggressive, i.period.s, i.period.ns, a.as_mut_ptr(), 18, b.as_mut_ptr(), 18, c.as_mut_ptr(), 18, &mut h, &mut d, &mut s, &mut ns)
+    };
+    set_out(i, n, want, &r, &[h, d]) && (s, ns) == if want == 0 { (i.period.s, i.period.ns) } else { (77, 78) }
+}
+
+/// To the bit over the library's sine; over Rust's, x and y to the bit and z within 2^-19 m.
+fn stepped(n: u32, want: u32, out: &[f32], c: &Course, lift: &Lift, progress: f32, w: &mut Worst) -> bool {
+    if want != 0 {
+        return n == want && held(out);
+    }
+    let (Some(ours), Some(rust)) = (step::<Ours>(c, lift, progress), step::<Rust>(c, lift, progress)) else {
+        return n == 0 && held(out);
+    };
+    let rust = rust.as_flattened();
+    n == 256 && is_at(out, &ours) && (0..18).all(|k| if k % 3 == 2 { w.near(out[k], rust[k], 1.0 / 524288.0) } else { out[k].to_bits() == rust[k].to_bits() })
+}
+
+fn step_by_distance(i: &Input, want: u32, w: &mut Worst) -> bool {
+    let mut out = [HELD; 18];
+    let n = unsafe { probe_step(i.at(0), 56, i.tripod, i.aggressive, out.as_mut_ptr(), 18) };
+    let c = i.course();
+    let lift = Lift { height: i.f[55], descent: 0.0, tripod: i.tripod, aggressive: i.aggressive != 0 };
+    stepped(n, want, &out, &c, &lift, progress_by_distance(&c, i.f[54]), w)
+}
+
+fn lift(i: &Input) -> Lift {
+    Lift { height: i.f[54], descent: i.f[55], tripod: i.tripod, aggressive: i.aggressive != 0 }
+}
+
+fn timed_step(i: &Input, want: u32, w: &mut Worst) -> bool {
+    let mut out = [HELD; 18];
+    let (e, p) = (i.elapsed, i.period);
+    let n = unsafe { probe_timed_step(i.at(0), 56, i.tripod, i.aggressive, e.s, e.ns, p.s, p.ns, out.as_mut_ptr(), 18) };
+    stepped(n, want, &out, &i.course(), &lift(i), timed_progress(e, p), w)
+}
+
+fn even_step(i: &Input, want: u32, w: &mut Worst) -> bool {
+    let mut out = [HELD; 18];
+    let (e, p) = (i.elapsed, i.period);
+    let n = unsafe { probe_even_step(i.at(0), 56, i.tripod, i.aggressive, e.s, e.ns, p.s, p.ns, out.as_mut_ptr(), 18) };
+    stepped(n, want, &out, &i.course(), &lift(i), even_progress(e, p), w)
+}
+
+/// To the bit over the library's functions; over Rust's, z to the bit, lifted feet within 2^-12 m, standing ones where they turn well.
+fn planner(i: &Input, want: u32, w: &mut Worst) -> bool {
+    let mut out = [HELD; 18];
+    let n = unsafe { probe_plan(i.at(0), 40, i.tripod, i.aggressive, i.period.s, i.period.ns, out.as_mut_ptr(), 18) };
+    if n != want || want != 0 {
+        return n == want && held(&out);
+    }
+    let (start, relaxed, asked) = (i.feet(0), i.feet(18), i.point(36));
+    let rust = plan::<Rust>(start, relaxed, i.tripod, asked);
+    let well = turns_well(start, relaxed, i.tripod);
+    let mut near = |l: usize| (0..2).all(|k| w.near(out[3 * l + k], rust[l][k], 1.0 / 4096.0));
+    is_at(&out, &plan::<Ours>(start, relaxed, i.tripod, asked))
+        && (0..6).all(|l| out[3 * l + 2].to_bits() == rust[l][2].to_bits() && (!(well || is_lifted(i.tripod, l)) || near(l)))
+}
+
+/// To the bit over the library's functions, refusal 6 included; over Rust's, joints within 2^-16, and refusal 6 may differ
+/// where a coxa angle is within 2^-16 of the limit.
+fn inverse_kinematics(i: &Input, want: u32, w: &mut Worst) -> bool {
+    let mut out = [HELD; 18];
+    let n = unsafe { probe_ik(i.at(0), 59, out.as_mut_ptr(), 18) };
+    if want != 0 {
+        return n == want && held(&out);
+    }
+    let (feet, body) = (i.feet(0), i.body());
+    let ours: [(f32, Point); 6] = std::array::from_fn(|l| inverse::<Ours>(feet[l], &body, &i.leg(l)));
+    let rust: [(f32, Point); 6] = std::array::from_fn(|l| inverse::<Rust>(feet[l], &body, &i.leg(l)));
+    let past = ours.iter().any(|e| is_past(e.0));
+    let at_limit = rust.iter().any(|e| ((e.0 as f64).abs() - std::f64::consts::FRAC_PI_2).abs() <= 1.0 / 65536.0);
+    if past != rust.iter().any(|e| is_past(e.0)) && !at_limit {
+        return false;
+    }
+    if past {
+        return n == 6 && held(&out);
+    }
+    n == 0 && is_at(&out, &ours.map(|e| e.1)) && (0..18).all(|k| w.near(out[k], rust[k / 3].1[k % 3], 1.0 / 65536.0))
+}
+
+/// To the bit over the library's functions; over Rust's within 2^-17 m.
+fn forward_kinematics(i: &Input, want: u32, w: &mut Worst) -> bool {
+    let mut out = [HELD; 18];
+    let n = unsafe { probe_fk(i.at(0), 59, out.as_mut_ptr(), 18) };
+    if n != want || want != 0 {
+        return n == want && held(&out);
+    }
+    let (joints, body) = (i.feet(0), i.body());
+    let ours: Feet = std::array::from_fn(|l| forward::<Ours>(joints[l], &body, &i.leg(l)));
+    let rust: Feet = std::array::from_fn(|l| forward::<Rust>(joints[l], &body, &i.leg(l)));
+    is_at(&out, &ours) && (0..18).all(|k| w.near(out[k], rust.as_flattened()[k], 1.0 / 131072.0))
+}
+
+// ---- the list
+
+/// What an entry takes besides floats.
+#[derive(Clone, Copy, Default)]
+pub struct Takes {
+    pub mask: bool,
+    pub count: bool,
+    pub lift: bool,
+    pub elapsed: bool,
+    pub period: bool,
+}
+
+pub struct Entry {
+    pub name: &'static str,
+    pub rows: Vec<Row>,
+    pub takes: Takes,
+    pub costly: bool,
+    /// Blocks of floats that are often made nearly equal: from, to, length.
+    pub twins: &'static [(usize, usize, usize)],
+    pub check: Check,
+}
+
+impl Entry {
+    /// The lowest number that applies, 6 apart.
+    pub fn refusal(&self, i: &Input) -> u32 {
+        let t = &self.takes;
+        let n = if t.count { 18 + 3 * i.count.min(8) } else { self.rows.len() };
+        let first = floats(&self.rows[..n], &i.f);
+        if first != 0 {
+            first
+        } else if (t.elapsed && !elapsed_fits(i.elapsed)) || (t.period && !period_fits(i.period)) {
+            3
+        } else if t.mask && i.mask > 63 {
+            4
+        } else if t.count && i.count.min(64) as u32 != i.mask.count_ones() {
+            5
+        } else {
+            0
+        }
+    }
+}
+
+pub fn entries() -> Vec<Entry> {
+    let of = |parts: &[(usize, Row)]| parts.iter().flat_map(|&(n, row)| vec![row; n]).collect::<Vec<Row>>();
+    let none = Takes::default();
+    let mask = Takes { mask: true, ..none };
+    let lift = Takes { lift: true, ..none };
+    let period = Takes { lift: true, period: true, ..none };
+    let times = Takes { elapsed: true, period: true, ..none };
+    let both = Takes { lift: true, ..times };
+    let one = [(6, FOOT), (1, MAX_MOVE)];
+    let six = [(36, FOOT), (1, MAX_MOVE)];
+    let told = [(2, DIRECTION), (1, ROTATION), (1, DIRECTION)];
+    let course = [(54, FOOT), (2, DIRECTION)];
+    let configuration = || {
+        let leg = [(3, FOOT), (1, ROTATION), (2, CORRECTION)];
+        [of(&[(3, LENGTH), (2, OFFSET)]), of(&leg), of(&leg), of(&leg), of(&leg), of(&leg), of(&leg)].concat()
+    };
+    let pair: &[_] = &[(0, 3, 3)];
+    let rows: &[_] = &[(0, 18, 18)];
+    let three: &[_] = &[(0, 18, 18), (18, 36, 18)];
+    let entry = |name, rows, takes, costly, twins, check| Entry { name, rows, takes, costly, twins, check };
+    vec![
+        entry("min", of(&[(2, FINITE)]), none, false, &[(0, 1, 1)], min as Check),
+        entry("max", of(&[(2, FINITE)]), none, false, &[(0, 1, 1)], max),
+        entry("atan2", of(&[(2, ATAN2)]), none, false, &[(0, 1, 1)], atan2),
+        entry("merge", of(&[(36, FOOT)]), mask, false, rows, merge),
+        entry("select", of(&[(18, FOOT)]), mask, false, &[], select),
+        entry("update", of(&[(42, FOOT)]), Takes { count: true, ..mask }, false, &[], update),
+        entry("one move", of(&one), none, false, pair, move_point),
+        entry("vector move", of(&one), none, false, pair, move_vector),
+        entry("point sets out", of(&one), none, false, pair, point_iter),
+        entry("next point", of(&one), none, false, pair, next_point),
+        entry("longest distance", of(&[(36, FOOT)]), none, false, rows, longest_distance),
+        entry("new command", of(&told[..2]), none, false, &[], new),
+        entry("command, all fields", of(&told), period, false, &[], command),
+        entry("should move", of(&told), period, false, &[], should_move),
+        entry("timed progress", vec![], times, false, &[], timed),
+        entry("even progress", vec![], times, false, &[], even),
+        entry("six moves", of(&six), none, true, rows, move_feet),
+        entry("feet set out", of(&six), none, true, rows, feet_iter),
+        entry("next feet", of(&six), none, true, rows, next_feet),
+        entry("walk", of(&[(6, WALK), (1, WALK_MOVE)]), none, true, pair, one_walk),
+        entry("six walks", of(&[(36, WALK), (1, WALK_MOVE)]), none, true, rows, six_walks),
+        entry("step sets out", of(&[(36, FOOT), (1, MAX_MOVE), (1, DIRECTION)]), lift, true, rows, step_iter),
+        entry("timed sets out", of(&[(36, FOOT), (2, DIRECTION)]), period, true, rows, timed_iter),
+        entry("even sets out", of(&[(36, FOOT), (2, DIRECTION)]), period, true, rows, even_iter),
+        entry("step by distance", of(&[(54, FOOT), (1, MAX_MOVE), (1, DIRECTION)]), lift, true, three, step_by_distance),
+        entry("timed step", of(&course), both, true, three, timed_step),
+        entry("even step", of(&course), both, true, three, even_step),
+        entry("planner", [of(&[(36, FOOT)]), of(&told)].concat(), period, true, rows, planner),
+        entry("inverse kinematics", [of(&[(18, FOOT)]), configuration()].concat(), none, true, &[], inverse_kinematics),
+        entry("forward kinematics", [of(&[(18, MOTOR)]), configuration()].concat(), none, true, &[], forward_kinematics),
+    ]
+}
