@@ -11,7 +11,6 @@ FILES = [("lib.rt", ""), ("patterns.rt", "patterns."), ("core.rt", "core.")]
 # A relation settles its count, and what equates a record's fields settles the record.
 BY_HAND = {
     "sines-core-sine-and-cosine": "i a b p q = same-turn a b (p .0 ∙ sym (q .0)) (p .1 ∙ sym (q .1))",
-    "joints-core-turns-of": "i a b p q = same-turns a b (p .base-sine ∙ sym (q .base-sine)) (p .base-cosine ∙ sym (q .base-cosine)) (p .femur-sine ∙ sym (q .femur-sine)) (p .femur-cosine ∙ sym (q .femur-cosine)) (p .tibia-sine ∙ sym (q .tibia-sine)) (p .tibia-cosine ∙ sym (q .tibia-cosine))",
     "walks-walk": "i a b p q = walks-one.walk-settled (i .0) a b (i .1 .0) (i .1 .1 .0) p q",
     "walks-walk-feet": "i a b p q = walks-one.walk-feet-settled (i .0) a b (i .1 .0) (i .1 .1 .0) p q",
     "walks-core-walk": "i = walks-one.one-count (i .0) (i .1 .0) (i .1 .1 .0)",
@@ -25,7 +24,6 @@ ELSEWHERE = {"rows-updated-from-selected-legs"}
 PARTS = {
     "joints-core-solved-angles": ("Course", "Point", "c ≡ course o y l", "LegAngles"),
     "joints-core-calculate-ik-for-leg": ("Course", "Point", "c ≡ course o y l", "LegSolved"),
-    "joints-core-foot-of": ("Turns", "LegAngles", "TurnsOf o y l c", "Point"),
 }
 
 HEAD = """-- No second answer fits: for every entry, and every core behind one, what comes in settles what goes out, refusals included. Each law is stated over the
@@ -46,24 +44,16 @@ same-turn : (a b : Turn) → a .sine ≡ b .sine → a .cosine ≡ b .cosine →
 same-turn a b s c = ap₂ turn s c
   where
     turn : Float → Float → Turn
-    turn x y = record { sine = x; cosine = y }
-
-same-turns : (a b : Turns) → a .base .sine ≡ b .base .sine → a .base .cosine ≡ b .base .cosine → a .femur .sine ≡ b .femur .sine → a .femur .cosine ≡ b .femur .cosine → a .tibia .sine ≡ b .tibia .sine → a .tibia .cosine ≡ b .tibia .cosine → a ≡ b
-same-turns a b s c t d u e = ap (λ (x : Turn). turns x (a .femur) (a .tibia)) (same-turn (a .base) (b .base) s c) ∙ ap₂ (turns (b .base)) (same-turn (a .femur) (b .femur) t d) (same-turn (a .tibia) (b .tibia) u e)
-  where
-    turns : Turn → Turn → Turn → Turns
-    turns x y z = record { base = x; femur = y; tibia = z }"""
+    turn x y = record { sine = x; cosine = y }"""
 
 USES = """use lib.Ieee.{Float}
 use Rattle.legs.specs.declared.Point.{Point}
 use Rattle.legs.specs.declared.LegAngles.{LegAngles}
 use Rattle.sines.specs.declared.core.Turn.{Turn}
 use Rattle.joints.specs.Inverse.{course}
-use Rattle.joints.specs.Forward.{TurnsOf}
 use Rattle.joints.specs.declared.configuration.Body.{Body}
 use Rattle.joints.specs.declared.configuration.LegConfiguration.{LegConfiguration}
 use Rattle.joints.specs.declared.core.Course.{Course}
-use Rattle.joints.specs.declared.core.Turns.{Turns}
 use Rattle.joints.specs.declared.core.LegSolved.{LegSolved}"""
 
 

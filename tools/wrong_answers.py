@@ -21,11 +21,11 @@ ENTRIES = {
     "absolute": "numbers/magnitude_keeps_the_sign numbers/zero_keeps_its_sign",
     "min": "numbers/min_gives_the_second numbers/min_takes_them_the_other_way_round",
     "max": "numbers/max_gives_the_second numbers/max_takes_them_the_other_way_round",
-    "square_root": "roots/entry_infinity_is_2 roots/entry_root_of_the_opposite roots/core_rounds_down",
+    "square_root": "roots/entry_refuses_2_whatever_it_was roots/entry_root_of_the_opposite roots/core_rounds_down",
     "sine": "sines/sine_sign_lost sines/sine_rounds_askew sines/narrow_sine_band",
     "cosine": "sines/cosine_of_zero_is_zero sines/cosine_swaps_the_pair",
-    "arc_cosine": "arcs/lost_sign_of_q arcs/no_second_refusal arcs/narrow_wedge",
-    "atan2": "arcs/lost_sign_of_y arcs/sides_swapped arcs/zeros_swapped",
+    "arc_cosine": "arcs/lost_sign_of_q arcs/narrow_wedge",
+    "atan2": "arcs/lost_sign_of_y arcs/sides_swapped arcs/zeros_swapped arcs/atan2_looks_at_y_alone",
     "from_pattern": "numbers/nan_pattern_is_a_number numbers/nan_pattern_is_infinite",
     "pattern_of": "numbers/infinity_has_no_pattern numbers/nan_has_a_pattern",
     "as_legs": "legs/row_forgets_a_leg legs/row_in_field_order",
@@ -59,8 +59,8 @@ ENTRIES = {
     "EvenStepIterator::step": "steps/a_timed_step_begins_at_its_target steps/a_time_refused_as_2",
     "EvenStepIterator::next": "steps/even_pace_divided_twice steps/a_time_refused_as_2 " + SHARED_NEXT,
     "step_with_relaxed_transformation": "planner/minus_sine planner/relaxed_vectors_centred_too planner/the_legs_of_the_other_tripod",
-    "calculate_ik": "joints/90_degrees_is_taken joints/femur_and_tibia_swapped joints/zero_minus_z",
-    "calculate_fk": "joints/fk_takes_what_is_outside joints/vectors_summed_in_another_order",
+    "calculate_ik": "joints/90_degrees_is_taken joints/149_for_150_degrees joints/clamp_keeps_nan joints/femur_and_tibia_swapped joints/zero_minus_z",
+    "calculate_fk": "joints/fk_takes_what_is_outside joints/femur_along_the_wrong_axis",
 }
 
 

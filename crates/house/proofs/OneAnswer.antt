@@ -8,11 +8,9 @@ use Rattle.legs.specs.declared.Point.{Point}
 use Rattle.legs.specs.declared.LegAngles.{LegAngles}
 use Rattle.sines.specs.declared.core.Turn.{Turn}
 use Rattle.joints.specs.Inverse.{course}
-use Rattle.joints.specs.Forward.{TurnsOf}
 use Rattle.joints.specs.declared.configuration.Body.{Body}
 use Rattle.joints.specs.declared.configuration.LegConfiguration.{LegConfiguration}
 use Rattle.joints.specs.declared.core.Course.{Course}
-use Rattle.joints.specs.declared.core.Turns.{Turns}
 use Rattle.joints.specs.declared.core.LegSolved.{LegSolved}
 use Rattle.numbers.specs.Answers as numbers
 use Rattle.numbers.proofs.OneAnswer as numbers-one
@@ -145,8 +143,6 @@ use Rattle.joints.proofs.core.solved_angles.Reads as joints-core-solved-angles
 use Rattle.joints.proofs.core.calculate_ik_for_leg.Reads as joints-core-calculate-ik-for-leg
 use Rattle.joints.proofs.core.calculate_ik.Reads as joints-core-calculate-ik
 use Rattle.joints.proofs.core.from_motor.Reads as joints-core-from-motor
-use Rattle.joints.proofs.core.turns_of.Reads as joints-core-turns-of
-use Rattle.joints.proofs.core.foot_of.Reads as joints-core-foot-of
 use Rattle.joints.proofs.core.calculate_fk_for_leg.Reads as joints-core-calculate-fk-for-leg
 use Rattle.joints.proofs.core.calculate_fk.Reads as joints-core-calculate-fk
 
@@ -164,12 +160,6 @@ same-turn a b s c = ap₂ turn s c
   where
     turn : Float → Float → Turn
     turn x y = record { sine = x; cosine = y }
-
-same-turns : (a b : Turns) → a .base .sine ≡ b .base .sine → a .base .cosine ≡ b .base .cosine → a .femur .sine ≡ b .femur .sine → a .femur .cosine ≡ b .femur .cosine → a .tibia .sine ≡ b .tibia .sine → a .tibia .cosine ≡ b .tibia .cosine → a ≡ b
-same-turns a b s c t d u e = ap (λ (x : Turn). turns x (a .femur) (a .tibia)) (same-turn (a .base) (b .base) s c) ∙ ap₂ (turns (b .base)) (same-turn (a .femur) (b .femur) t d) (same-turn (a .tibia) (b .tibia) u e)
-  where
-    turns : Turn → Turn → Turn → Turns
-    turns x y z = record { base = x; femur = y; tibia = z }
 
 -- ---- numbers
 pub settled-numbers-absolute : Settled (numbers-absolute.Post tt)
@@ -536,12 +526,6 @@ settled-joints-core-calculate-ik i = one-value
 
 pub settled-joints-core-from-motor : Settled (joints-core-from-motor.Post tt)
 settled-joints-core-from-motor i = one-value
-
-pub settled-joints-core-turns-of : Settled (joints-core-turns-of.Post tt)
-settled-joints-core-turns-of i a b p q = same-turns a b (p .base-sine ∙ sym (q .base-sine)) (p .base-cosine ∙ sym (q .base-cosine)) (p .femur-sine ∙ sym (q .femur-sine)) (p .femur-cosine ∙ sym (q .femur-cosine)) (p .tibia-sine ∙ sym (q .tibia-sine)) (p .tibia-cosine ∙ sym (q .tibia-cosine))
-
-pub settled-joints-core-foot-of : (o : LegAngles) (c : Turns) (y : Body) (l : LegConfiguration) (a b : Point) → TurnsOf o y l c → joints-core-foot-of.Post tt (c, (y, (l, tt))) a (c, (y, (l, tt))) → joints-core-foot-of.Post tt (c, (y, (l, tt))) b (c, (y, (l, tt))) → a ≡ b
-settled-joints-core-foot-of o c y l a b e p q = p o e ∙ sym (q o e)
 
 pub settled-joints-core-calculate-fk-for-leg : Settled (joints-core-calculate-fk-for-leg.Post tt)
 settled-joints-core-calculate-fk-for-leg i = one-value
