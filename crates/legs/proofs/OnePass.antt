@@ -4,7 +4,7 @@ use mathlib.Core.Bool.{Bool, true}
 use Rattle.numbers.specs.Door.{FiniteEnds}
 use Rattle.numbers.specs.declared.door.Limit.{Limit}
 use Rattle.numbers.proofs.OnePass.{in-row, both}
-use Rattle.legs.specs.Legs.{Leg, leftFront, rightFront, leftMiddle, rightMiddle, leftRear, rightRear, every, foot, finitePoint, permittedPoint}
+use Rattle.legs.specs.Legs.{Leg, leftFront, rightFront, leftMiddle, rightMiddle, leftRear, rightRear, every, foot, finitePoint, permittedPoint, finiteFeet, permittedFeet}
 use Rattle.legs.specs.declared.Point.{Point}
 use Rattle.legs.specs.declared.Feet.{Feet}
 
@@ -17,5 +17,5 @@ module _ (l : Limit) (e : FiniteEnds l) where
   unfolding permittedPoint finitePoint
   point-finite p = both (both (in-row l e (p .x)) (in-row l e (p .y))) (in-row l e (p .z))
 
-  pub feet-finite : (f : Feet) → every (λ k. permittedPoint l (foot f k)) ≡ true → every (λ k. finitePoint (foot f k)) ≡ true
+  pub feet-finite : (f : Feet) → permittedFeet l f ≡ true → finiteFeet f ≡ true
   feet-finite f = all-six (λ k. permittedPoint l (foot f k)) (λ k. finitePoint (foot f k)) (λ k. point-finite (foot f k))

@@ -1,7 +1,9 @@
 -- `moves::longest_refused` meets its contract: what the first pass lets through is finite too.
 use mathlib.Core.Bool.{_&&_}
+use Rattle.numbers.specs.Limits.{foot as footLimit}
 use Rattle.numbers.proofs.OnePass.{let-through, kept-out}
-use Rattle.moves.specs.Refusals.{longestRefusal, finiteFeet, permittedFeet}
+use Rattle.legs.specs.Legs.{finiteFeet, permittedFeet}
+use Rattle.moves.specs.Refusals.{longestRefusal}
 use Rattle.moves.proofs.OnePass.{two-feet}
 use borrow.Author.Needs.{needs}
 use Rattle.moves.proofs.longest_refused.Statement.{statement}
@@ -38,7 +40,7 @@ returns-2 c =
     let d = c .before .before .before .before in
     let a = d .before .before .before .args in
     let p = simp (d .feet-permitted2 .ensures, d .before .feet-permitted .ensures, d .before .before .foot .ensures) at (c .before .before .before .if1 .left) in
-    simp (c .outside .ensures, c .before .feet-finite2 .ensures, c .before .before .feet-finite .ensures) (kept-out (finiteFeet (a .a) && finiteFeet (a .b)) (permittedFeet (a .a) && permittedFeet (a .b)) p)
+    simp (c .outside .ensures, c .before .feet-finite2 .ensures, c .before .before .feet-finite .ensures) (kept-out (finiteFeet (a .a) && finiteFeet (a .b)) (permittedFeet footLimit (a .a) && permittedFeet footLimit (a .b)) p)
 
 pub longest-refused-spec : {M : Type 1} → statement M
 longest-refused-spec =

@@ -3,7 +3,8 @@ use mathlib.Core.Bool.{_&&_}
 use Rattle.numbers.specs.Door.{finite, permits}
 use Rattle.numbers.specs.Limits.{foot as footLimit, maxMove}
 use Rattle.numbers.proofs.OnePass.{let-through, kept-out}
-use Rattle.moves.specs.Refusals.{moveFeetRefusal, finiteFeet, permittedFeet}
+use Rattle.legs.specs.Legs.{finiteFeet, permittedFeet}
+use Rattle.moves.specs.Refusals.{moveFeetRefusal}
 use Rattle.moves.proofs.OnePass.{feet-and-move}
 use borrow.Author.Needs.{needs}
 use Rattle.moves.proofs.move_feet_refused.Statement.{statement}
@@ -50,7 +51,7 @@ returns-2 c =
     let a = d .before .before .before .before .before .args in
     let p = simp (d .is-permitted .ensures, d .before .feet-permitted2 .ensures, d .before .before .feet-permitted .ensures, d .before .before .before .max-move .ensures, d .before .before .before .before .foot .ensures) at (c .before .before .before .before .if1 .left) in
     simp (c .outside .ensures, c .before .is-finite .ensures, c .before .before .feet-finite2 .ensures, c .before .before .before .feet-finite .ensures)
-    (kept-out (finiteFeet (a .last) && finiteFeet (a .target) && finite (a .max-move)) (permittedFeet (a .last) && permittedFeet (a .target) && permits maxMove (a .max-move)) p)
+    (kept-out (finiteFeet (a .last) && finiteFeet (a .target) && finite (a .max-move)) (permittedFeet footLimit (a .last) && permittedFeet footLimit (a .target) && permits maxMove (a .max-move)) p)
 
 pub move-feet-refused-spec : {M : Type 1} → statement M
 move-feet-refused-spec =
