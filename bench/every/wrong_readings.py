@@ -1,0 +1,68 @@
+#!/usr/bin/env python3
+"""bench/every/wrong_readings.py: shows that bench/every can fail. Puts one wrong reading after the other into a copy of the judge
+and runs it on the library that bench/every/run built. The last line counts those that the answers tell apart."""
+import os
+import subprocess
+import sys
+import tempfile
+
+HERE = os.path.dirname(os.path.abspath(__file__))
+LIBRARY = os.path.join(HERE, "..", "..", "target", "bench")
+# what is read wrongly, where, the right words, the wrong ones
+WRONG = [
+    ("a foot one ulp past its end", "judge.rs", "FOOT: Row = Row(-4.0, 4.0)", "FOOT: Row = Row(-4.0, 4.0000005)"),
+    ("of equal numbers the second", "entries.rs", "(y as f64) > x as f64", "(y as f64) >= x as f64"),
+    ("a period of 60 s and 1 ns", "judge.rs", "<= 60_000_000_000", "<= 60_000_000_001"),
+    ("a period in 64 bits", "judge.rs", "t.s as u128 * 1_000_000_000 + t.ns as u128", "t.s.wrapping_mul(1_000_000_000).wrapping_add(t.ns as u64) as u128"),
+    ("elapsed of 3601 s", "judge.rs", "t.s < 3601", "t.s < 3602"),
+    ("mask 64", "entries.rs", "t.mask && i.mask > 63", "t.mask && i.mask > 64"),
+    ("arrival only below max move", "judge.rs", "if d <= max_move", "if d < max_move"),
+    ("arrival by bits", "judge.rs", "last[k] == target[k])", "last[k].to_bits() == target[k].to_bits())"),
+    ("squares summed backwards", "judge.rs", "(d[0] * d[0] + d[1] * d[1] + d[2] * d[2]).sqrt()", "(d[2] * d[2] + d[1] * d[1] + d[0] * d[0]).sqrt()"),
+    ("EPSILON itself is no move", "entries.rs", "x.abs() >= f32::EPSILON", "x.abs() > f32::EPSILON"),
+    ("the period divided once", "judge.rs", "seconds(elapsed) / seconds(period) / seconds(period)", "seconds(elapsed) / seconds(period)"),
+    ("a step where nothing moves ahead", "judge.rs", "if horizontal(c.start, c.target) == 0.0", "if false"),
+    ("aggressive at progress 1/2", "judge.rs", "progress < 0.5 {", "progress <= 0.5 {"),
+    ("the centre in row order", "judge.rs", "([0, 3, 4], [0, 4, 3])", "([0, 3, 4], [0, 3, 4])"),
+    ("relaxed vectors centred too", "judge.rs", "(relaxed[l][0], relaxed[l][1]);\n        if", "(relaxed[l][0] - from[0], relaxed[l][1] - from[1]);\n        if"),
+    ("an angle of a zero vector", "judge.rs", "if (x1 == 0.0 && y1 == 0.0) || (x2 == 0.0 && y2 == 0.0) { 0.0 } else", "if false { 0.0 } else"),
+    ("-s for 0 - s", "judge.rs", "[c, 0.0 - s, 0.0]", "[c, -s, 0.0]"),
+    ("a lifted z copied", "judge.rs", "p[1] + dy, p[2] + 0.0]", "p[1] + dy, p[2]]"),
+    ("a NaN quotient is -1", "judge.rs", "if q.is_nan() || q > 1.0 { 1.0 }", "if q.is_nan() { -1.0 } else if q > 1.0 { 1.0 }"),
+    ("90 degrees permitted", "judge.rs", "angle >= 90f32.to_radians() ||", "angle > 90f32.to_radians() ||"),
+    ("-90 degrees permitted", "judge.rs", "|| angle <= (-90f32)", "|| angle < (-90f32)"),
+    ("the coxa's z without 0.0 *", "judge.rs", "leg[2] + 0.0 * coxa_length + femur_x", "leg[2] + femur_x"),
+]
+
+
+def failures(folder, where, right, wrong):
+    for name in ("judge.rs", "entries.rs", "every.rs"):
+        text = open(os.path.join(HERE, name), encoding="utf-8").read()
+        if name == where:
+            if text.count(right) != 1:
+                sys.exit(f"wrong_readings: not once in {name}: {right}")
+            text = text.replace(right, wrong)
+        if name == "every.rs":
+            text = text.replace("5..=7 => 4,\n        _ => 2,", "5..=7 => 2,\n        _ => 1,")  # fewer special values at once
+        with open(os.path.join(folder, name), "w", encoding="utf-8") as out:
+            out.write(text)
+    program = os.path.join(folder, "every")
+    subprocess.run(["rustc", "-O", "--edition", "2021", os.path.join(folder, "every.rs"), "-L", LIBRARY, "-l", "static=probe", "-o", program],
+                   check=True, capture_output=True)
+    said = subprocess.run([program, "100000", "60000"], capture_output=True, text=True, check=False).stdout
+    return int(said.split()[-2])
+
+
+def main():
+    told = 0
+    with tempfile.TemporaryDirectory() as folder:
+        if failures(folder, "", "", ""):
+            sys.exit("wrong_readings: the right reading fails")
+        for what, where, right, wrong in WRONG:
+            n = failures(folder, where, right, wrong)
+            told += n > 0
+            print(f"{what:34} {n} failures", flush=True)
+    print(f"{len(WRONG)} wrong readings, {told} told apart")
+
+
+main()
