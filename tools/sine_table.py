@@ -12,20 +12,22 @@ from math import factorial, floor
 PLACES = 129
 HOME = os.path.join(os.path.dirname(os.path.abspath(__file__)), "..", "crates", "sines")
 
-CODE = """// Sine and cosine at whole eighths: 2^30 (1 + S(j/8)) in the high 32 bits and 2^30 (1 + C(j/8)) in the
-// low ones, for j from 0 to 128, each to the nearest whole number. Made by tools/sine_table.py; the
-// contract of `entry` holds every arm to that rule.
+CODE = """// Sine and cosine at whole eighths: 2^30 (1 + S(j/8)) and 2^30 (1 + C(j/8)) for j from 0 to 128, each
+// to the nearest whole number. Made by tools/sine_table.py; the contract of `entry` holds every arm to
+// that rule. Numbers of 32 bits, so that a small processor too has a table and no code for them.
 ghost use mathlib.Core.Path.{_≡_};
 ghost use Prim.Native.Nat.{_<_};
-ghost use Rattle.sines.specs.How.{pairEntry};
+ghost use Rattle.sines.specs.How.{sineEntry, cosineEntry};
 
-// Sine and cosine of j eighths in one number.
-pub fn entry(j: u64) -> u64
+pub struct Eighths(pub u32, pub u32);
+
+// Sine and cosine of j eighths.
+pub fn entry(j: u32) -> Eighths
     requires { ⌜ j < 129 ⌝ }
-    ensures { λ r. ⌜ r ≡ pairEntry j ⌝ }
+    ensures { λ r. ⌜ (r .0 ≡ sineEntry j) × (r .1 ≡ cosineEntry j) ⌝ }
 {
     match j {
-%s        _ => 0,
+%s        _ => Eighths(0, 0),
     }
 }
 """
@@ -63,7 +65,7 @@ def write(path, text):
         f.write(text)
 
 
-arms = "".join("        %d => 0x%08x_%08x,\n" % (j, entry(j, 1), entry(j, 0)) for j in range(PLACES))
+arms = "".join("        %d => Eighths(0x%08x, 0x%08x),\n" % (j, entry(j, 1), entry(j, 0)) for j in range(PLACES))
 write("src/table.rt", CODE % arms)
-laws = "".join("%s : tie.Need-%s\nunfolding right\n%s c = arm %d tt (c .match .keys%d)\n\n" % (need(k), need(k), need(k), k, k + 1) for k in range(PLACES))
+laws = "".join("%s : tie.Need-%s\nunfolding right\n%s c = arm %d (tt, tt) (c .match .keys%d)\n\n" % (need(k), need(k), need(k), k, k + 1) for k in range(PLACES))
 write("proofs/table/entry/Proof.antt", PROOF % (laws, " ".join(need(k) for k in range(PLACES + 1))))

@@ -5,7 +5,7 @@ ghost use Rattle.arcs.specs.How.{wholeRoot};
 
 // 2^16 over the root of (i + 1/2) / 128, to the nearest whole number, for i from 32 to 127; what lies
 // below is not asked for. The arms are made by tools/arc_table.py; a wrong one would cost time alone.
-fn seed(i: u64) -> u64
+fn seed(i: u32) -> u32
     ensures { λ r. ⌜ r ≤ 131072 ⌝ }
 {
     match i {
@@ -114,7 +114,7 @@ fn inverse(h: u64) -> u64
     requires { ⌜ h < 1073741824 ⌝ }
     ensures { λ r. ⌜ r ≤ 50331648 ⌝ }
 {
-    let y = seed(h / 0x80_0000);
+    let y = seed((h / 0x80_0000) as u32) as u64;
     let p = y * y / 16 * h / 0x4_0000_0000 % 0x200_0000;
     y * (0x300_0000 - p) / 0x2_0000
 }

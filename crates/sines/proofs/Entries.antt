@@ -15,7 +15,7 @@ use Rattle.series.proofs.Tables.{both, both-l, both-r, every, at}
 use Rattle.series.proofs.Polynomials.{eval, spread, ev-spread}
 use Rattle.series.proofs.NearestTables.{nearest, nearest-le, sineTable, cosineTable, sine-nearest, cosine-nearest}
 use Rattle.series.proofs.Addition.{fsp, fsm, fcp, fcm, FD, FD-eighths, K, at-eighths}
-use Rattle.sines.specs.How.{sineEntry, cosineEntry, pairEntry, PartsOf, sineSum, cosineSum, fixedSine, fixedCosine}
+use Rattle.sines.specs.How.{sineEntry, cosineEntry, PartsOf, sineSum, cosineSum, fixedSine, fixedCosine}
 
 -- f i, f (i + 1), .., so many
 unfoldable tabled : (ℕ → ℕ) → ℕ → ℕ → List ℕ
@@ -122,32 +122,13 @@ module _ (j : ℕ) (h : j < 129) where
       (at (nearest (spread 8 cosP) (spread 8 cosM) (denominator 8) 1073741824 1073741824 1) cosines cosines-pass j (subst (λ (n : ℕ). j < n) (sym many-cosines) h))))
 
 -- ---- the table in the code, held to the rule arm by arm
-unfoldable pub right : ℕ → ℕ → Type 0
-unfolding pairEntry sineEntry cosineEntry ev pw sinP sinM cosP cosM denominator factorial
-right e k = T (eqb e (pairEntry k))
+unfoldable pub right : ℕ → ℕ → ℕ → Type 0
+unfolding sineEntry cosineEntry ev pw sinP sinM cosP cosM denominator factorial
+right s c k = T (eqb s (sineEntry k)) × T (eqb c (cosineEntry k))
 
-pub arm : (k : ℕ) {e j : ℕ} → right e k → j ≡ k → e ≡ pairEntry j
+pub arm : (k : ℕ) {s c j : ℕ} → right s c k → j ≡ k → (s ≡ sineEntry j) × (c ≡ cosineEntry j)
 unfolding right
-arm k {e} {j} t h = subst (λ (i : ℕ). e ≡ pairEntry i) (sym h) (eqb→eq e (pairEntry k) t)
-
--- ---- the two halves of an entry
-halves : (t s c : ℕ) → t ≡ s * 4294967296 + c → c ≤ 2147483648 → (t / 4294967296 ≡ s) × (t % 4294967296 ≡ c)
-halves t s c e h = (omega arith, omega arith)
-
-module _ (j t : ℕ) (h : j < 129) (e : t ≡ pairEntry j) where
-  pub high-half : t / 4294967296 ≡ sineEntry j
-  unfolding pairEntry
-  high-half = halves t (sineEntry j) (cosineEntry j) e (cosine-small j h) .0
-
-  pub low-half : t % 4294967296 ≡ cosineEntry j
-  unfolding pairEntry
-  low-half = halves t (sineEntry j) (cosineEntry j) e (cosine-small j h) .1
-
-  pub high-small : t / 4294967296 ≤ 2147483648
-  high-small = subst (λ (n : ℕ). n ≤ 2147483648) (sym high-half) (sine-small j h)
-
-  pub low-small : t % 4294967296 ≤ 2147483648
-  low-small = subst (λ (n : ℕ). n ≤ 2147483648) (sym low-half) (cosine-small j h)
+arm k {s} {c} {j} t h = (subst (λ (i : ℕ). s ≡ sineEntry i) (sym h) (eqb→eq s (sineEntry k) (t .0)), subst (λ (i : ℕ). c ≡ cosineEntry i) (sym h) (eqb→eq c (cosineEntry k) (t .1)))
 
 -- ---- the sums of an angle's parts
 pub sine-of-parts : (x s c a b : ℕ) → PartsOf x s c a b → sineSum s c a b ≡ fixedSine x

@@ -21,10 +21,6 @@ unfoldable pub cosineEntry : ℕ → ℕ
 unfolding ev cosP cosM denominator
 cosineEntry j = nearest (ev 8 j cosP) (ev 8 j cosM) (denominator 8)
 
--- both in one number of 64 bits
-unfoldable pub pairEntry : ℕ → ℕ
-pairEntry j = sineEntry j * 4294967296 + cosineEntry j
-
 -- ---- the argument, in units of 2 ^ -35, from the bits without the sign of an f32 from 2 ^ -12 to 16: whole eighths and the rest
 unfoldable pub fixed : ℕ → ℕ
 fixed m = (8388608 + m % 8388608) * 2 ^ (m / 8388608 - 115)

@@ -75,12 +75,12 @@ fn taken_apart(x: u64) -> Parts
     requires { ⌜ x ≤ 549755813888 ⌝ }
     ensures { λ p. ⌜ PartsOf x (p .s) (p .c) (p .a) (p .b) ⌝ }
 {
-    let both = table::entry(x / 0x1_0000_0000);
+    let at = table::entry((x / 0x1_0000_0000) as u32);
     let r = x % 0x1_0000_0000;
     let q = square_of(r);
     Parts {
-        s: both / 0x1_0000_0000,
-        c: both % 0x1_0000_0000,
+        s: at.0 as u64,
+        c: at.1 as u64,
         a: even_part(q),
         b: odd_part(r, q),
     }
