@@ -2,3 +2,4 @@ mod Bits
 mod Together
 pub mod Laws
 pub mod Within
+mod OnePass

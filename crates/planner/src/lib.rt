@@ -17,17 +17,18 @@ pub fn plan_refused(start: Feet, relaxed: Feet, command: MoveCommand) -> u32
     ensures { λ r. ⌜ r ≡ planRefusal start relaxed command ⌝ }
 {
     let limit = numbers::limits::foot();
-    let finite = legs::core::feet_finite(start)
-        & legs::core::feet_finite(relaxed)
-        & commands::core::command_finite(command);
     let permitted = legs::core::feet_permitted(limit, start)
         & legs::core::feet_permitted(limit, relaxed)
         & commands::core::command_permitted(command);
-    door::first_of(
-        finite,
-        permitted,
-        door::unless(commands::core::is_period(command.step_time), 3),
-    )
+    if permitted {
+        door::unless(commands::core::is_period(command.step_time), 3)
+    } else {
+        door::outside(
+            legs::core::feet_finite(start)
+                & legs::core::feet_finite(relaxed)
+                & commands::core::command_finite(command),
+        )
+    }
 }
 
 // The next target of all six feet, from where they are, where they stand relaxed, and the command.

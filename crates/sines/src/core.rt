@@ -73,7 +73,7 @@ pub(crate) fn inside_sine(x: f32) -> f32
     if m < 0x3980_0000 {
         return x;
     }
-    signed(b, fixed::centred(fixed::sine(fixed::fixed_of(m))))
+    signed(b, fixed::centred(fixed::both(fixed::fixed_of(m)).sine))
 }
 
 // Below 2^-12 the cosine is 1, nearer than 2^-25. C is even.
@@ -85,7 +85,7 @@ pub(crate) fn inside_cosine(x: f32) -> f32
     if m < 0x3980_0000 {
         return 1.0;
     }
-    fixed::centred(fixed::cosine(fixed::fixed_of(m)))
+    fixed::centred(fixed::both(fixed::fixed_of(m)).cosine)
 }
 
 // Both, each as above.

@@ -86,31 +86,13 @@ fn taken_apart(x: u64) -> Parts
     }
 }
 
-// Sine of x in units of 2^-35, up to 16; in units of 2^-24, plus 5 * 2^22.
-pub fn sine(x: u64) -> u64
-    requires { ⌜ x ≤ 549755813888 ⌝ }
-    ensures { λ w. ⌜ w ≡ fixedSine x ⌝ }
-{
-    let p = taken_apart(x);
-    sine_sum(p.s, p.c, p.a, p.b)
-}
-
-// Cosine, likewise.
-pub fn cosine(x: u64) -> u64
-    requires { ⌜ x ≤ 549755813888 ⌝ }
-    ensures { λ w. ⌜ w ≡ fixedCosine x ⌝ }
-{
-    let p = taken_apart(x);
-    cosine_sum(p.s, p.c, p.a, p.b)
-}
-
-// A sine and a cosine, likewise.
+// A sine and a cosine in units of 2^-24, plus 5 * 2^22.
 pub struct Pair {
     pub sine: u64,
     pub cosine: u64,
 }
 
-// Both of one angle.
+// Both of x in units of 2^-35, up to 16.
 pub fn both(x: u64) -> Pair
     requires { ⌜ x ≤ 549755813888 ⌝ }
     ensures { λ w. ⌜ (w .sine ≡ fixedSine x) × (w .cosine ≡ fixedCosine x) ⌝ }

@@ -1,23 +1,31 @@
--- `planner::plan_refused` meets its contract: the tests in the order of their numbers.
+-- `planner::plan_refused` meets its contract: what the first pass lets through is finite too.
+use mathlib.Core.Bool.{_&&_}
+use Rattle.numbers.specs.Door.{unless}
+use Rattle.numbers.specs.Limits.{foot as footLimit}
+use Rattle.legs.specs.Legs.{finiteFeet, permittedFeet}
+use Rattle.commands.specs.Command.{finiteCommand, permittedCommand}
+use Rattle.commands.specs.Times.{periodPermitted}
 use Rattle.planner.specs.Entry.{planRefusal}
+use Rattle.planner.proofs.OnePass.{let-through, kept-out, plan-finite}
 use Rattle.planner.proofs.plan_refused.Statement.{statement}
 use Rattle.planner.proofs.plan_refused.Tie as tie
 
 returns : tie.Need-returns
 unfolding planRefusal
 returns c =
-    simp (
-      c .first-of .ensures,
-      c .before .unless .ensures,
-      c .before .before .is-period .ensures,
-      c .before .before .before .command-permitted .ensures,
-      c .before .before .before .before .feet-permitted2 .ensures,
-      c .before .before .before .before .before .feet-permitted .ensures,
-      c .before .before .before .before .before .before .command-finite .ensures,
-      c .before .before .before .before .before .before .before .feet-finite2 .ensures,
-      c .before .before .before .before .before .before .before .before .feet-finite .ensures,
-      c .before .before .before .before .before .before .before .before .before .foot .ensures,
-    )
+    let d = c .before .before .before in
+    let a = d .before .before .before .before .args in
+    let p = simp (d .command-permitted .ensures, d .before .feet-permitted2 .ensures, d .before .before .feet-permitted .ensures, d .before .before .before .foot .ensures) at (c .before .before .if1 .taken) in
+    simp (c .unless .ensures, c .before .is-period .ensures) (let-through (unless (periodPermitted (a .command .«step_time»)) 3) (plan-finite (a .start) (a .relaxed) (a .command) p) p)
+
+returns-2 : tie.Need-returns-2
+unfolding planRefusal
+returns-2 c =
+    let d = c .before .before .before .before .before in
+    let a = d .before .before .before .before .args in
+    let p = simp (d .command-permitted .ensures, d .before .feet-permitted2 .ensures, d .before .before .feet-permitted .ensures, d .before .before .before .foot .ensures) at (c .before .before .before .before .if1 .left) in
+    simp (c .outside .ensures, c .before .command-finite .ensures, c .before .before .feet-finite2 .ensures, c .before .before .before .feet-finite .ensures)
+    (kept-out (finiteFeet (a .start) && finiteFeet (a .relaxed) && finiteCommand (a .command)) (permittedFeet footLimit (a .start) && permittedFeet footLimit (a .relaxed) && permittedCommand (a .command)) (unless (periodPermitted (a .command .«step_time»)) 3) p)
 
 pub plan-refused-spec : {M : Type 1} → statement M
 plan-refused-spec =
@@ -33,4 +41,5 @@ plan-refused-spec =
     (λ _ _. tt)
     (λ _ _. tt)
     (λ _ _. tt)
-    returns)
+    returns
+    returns-2)

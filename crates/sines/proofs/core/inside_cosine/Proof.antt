@@ -25,17 +25,17 @@ returns c = cosine-tiny (c .before .args .x) (c .if1 .taken)
 fixed-of-requires : tie.Need-fixed-of-requires
 fixed-of-requires c κs = (c .if1 .left, argument (c .before .args .x) (held (c .before)) (c .before .pre) .held .most)
 
-cosine-requires : tie.Need-cosine-requires
-cosine-requires c κs = search needs
+both-requires : tie.Need-both-requires
+both-requires c κs = search needs
 
 centred-requires : tie.Need-centred-requires
 centred-requires c κs =
-    cosine-fits (c .before .fixed-of .result) (c .cosine .result) (c .before .fixed-of .ensures .1) (c .cosine .ensures)
+    cosine-fits (c .before .fixed-of .result) (c .both .result .cosine) (c .before .fixed-of .ensures .1) (c .both .ensures .1)
 
 returns-2 : tie.Need-returns-2
 returns-2 c =
     let b = c .before .before in
-    c .centred .ensures ∙ ap centred (c .before .cosine .ensures ∙ ap fixedCosine (b .fixed-of .ensures .0)) ∙ cosine-else (b .before .before .args .x) (b .before .if1 .left)
+    c .centred .ensures ∙ ap centred (c .before .both .ensures .1 ∙ ap fixedCosine (b .fixed-of .ensures .0)) ∙ cosine-else (b .before .before .args .x) (b .before .if1 .left)
 
 pub inside-cosine-spec : {M : Type 1} → statement M
-inside-cosine-spec = tie.close (tie.spec float-to-bits-m returns fixed-of-requires cosine-requires centred-requires returns-2)
+inside-cosine-spec = tie.close (tie.spec float-to-bits-m returns fixed-of-requires both-requires centred-requires returns-2)

@@ -24,11 +24,11 @@ returns c = sine-tiny (c .before .args .x) (c .if1 .taken)
 fixed-of-requires : tie.Need-fixed-of-requires
 fixed-of-requires c κs = (c .if1 .left, argument (c .before .args .x) (held (c .before)) (c .before .pre) .held .most)
 
-sine-requires : tie.Need-sine-requires
-sine-requires c κs = search needs
+both-requires : tie.Need-both-requires
+both-requires c κs = search needs
 
 centred-requires : tie.Need-centred-requires
-centred-requires c κs = sine-fits (c .before .fixed-of .result) (c .sine .result) (c .before .fixed-of .ensures .1) (c .sine .ensures)
+centred-requires c κs = sine-fits (c .before .fixed-of .result) (c .both .result .sine) (c .before .fixed-of .ensures .1) (c .both .ensures .0)
 
 signed-requires : tie.Need-signed-requires
 signed-requires c κs = search needs
@@ -38,8 +38,8 @@ returns-2 c =
     let b = c .before .before .before in
     let x = b .before .before .args .x in
     c .signed .ensures
-    ∙ ap (λ (y : Float). cond (negative x) (neg y) y) (c .before .centred .ensures ∙ ap centred (c .before .before .sine .ensures ∙ ap fixedSine (b .fixed-of .ensures .0)))
+    ∙ ap (λ (y : Float). cond (negative x) (neg y) y) (c .before .centred .ensures ∙ ap centred (c .before .before .both .ensures .0 ∙ ap fixedSine (b .fixed-of .ensures .0)))
     ∙ sine-else x (b .before .if1 .left)
 
 pub inside-sine-spec : {M : Type 1} → statement M
-inside-sine-spec = tie.close (tie.spec float-to-bits-b returns fixed-of-requires sine-requires centred-requires signed-requires returns-2)
+inside-sine-spec = tie.close (tie.spec float-to-bits-b returns fixed-of-requires both-requires centred-requires signed-requires returns-2)
