@@ -9,7 +9,7 @@ use borrow.Author.Tests.{lt-ltb, le-ltb}
 use lib.Dec.{T, ltb, lit<, lit≤}
 use lib.Pow.{shl-lt}
 use lib.IntN.{ℤ, pos, negsuc, _-ℤ_}
-use lib.Ieee.{Float, nan, inf, fin, binary32, up, down, mul, neg, round, ofInt, unlike}
+use lib.Ieee.{Float, Format, nan, inf, fin, binary32, up, down, low, prec, emax, mul, neg, round, units, odd, ofInt, unlike}
 use lib.Ieee.Fits.{down-pos}
 use lib.Ieee.Exact.{HasValue, round-exact}
 use lib.Ieee.Back.{round-whole}
@@ -18,7 +18,7 @@ use Rattle.series.specs.Fractions.{Fraction, _÷_, signed, value, _≋_}
 use Rattle.series.proofs.Fractions.{same-trans}
 use Rattle.series.proofs.Parity.{difference}
 use Rattle.series.proofs.Order.{here-or-on}
-use Rattle.sines.specs.How.{centred}
+use Rattle.sines.specs.How.{counted, unit, centred}
 
 -- ---- a value as a fraction
 pub value-is : (x : Float) (s : Bool) (a c : ℕ) → HasValue x s a c → value x ≋ signed s (a ÷ c)
@@ -84,7 +84,7 @@ pub less : (w : ℕ) → w < 20971520 → pos w -ℤ pos 20971520 ≡ negsuc (20
 less w h = simp (lt-ltb w 20971520 h)
 
 pub centred-up : (w : ℕ) → 20971520 ≤ w → w ≤ 37748736 → HasValue (centred w) false (w - 20971520) 16777216
-unfolding centred ofInt
+unfolding counted ofInt
 centred-up w h k =
     subst (λ (z : ℤ). HasValue (mul binary32 (ofInt binary32 z) (fin false 1 (negsuc 23))) false (w - 20971520) 16777216) (sym (not-less w h))
     (divided (round binary32 false (w - 20971520) 1) false (w - 20971520) (few w k) (round-whole binary32 false (w - 20971520) (few w k)))
@@ -93,7 +93,7 @@ centred-up w h k =
     few w k = omega arith
 
 pub centred-down : (w : ℕ) → w < 20971520 → 4194304 ≤ w → HasValue (centred w) true (20971520 - w) 16777216
-unfolding centred ofInt
+unfolding counted ofInt
 centred-down w h k =
     subst (λ (z : ℤ). HasValue (mul binary32 (ofInt binary32 z) (fin false 1 (negsuc 23))) true (20971520 - w) 16777216) (sym (less w h))
     (subst (λ (y : ℕ). HasValue (mul binary32 (round binary32 true (suc (20971520 - suc w)) 1) (fin false 1 (negsuc 23))) true y 16777216) (same w h)
@@ -121,3 +121,37 @@ centred-value w l h =
 
     over : (w : ℕ) → 20971520 ≤ w → (w - 20971520) * 16777216 + 20971520 * 16777216 ≡ w * 16777216 + 0 * 16777216
     over w g = omega arith
+
+-- ---- a negative unit turns the sign
+turned-odd : (d : ℕ) (s : Bool) (q k l : ℕ) → odd d (not s) q k l ≡ neg (odd d s q k l)
+unfolding odd neg
+turned-odd d s zero k l = refl
+turned-odd d s (suc q) k l = refl
+
+-- a number or an infinity
+turned-cond : (b s : Bool) (x y : Float) → x ≡ neg y → cond b x (inf (not s)) ≡ neg (cond b y (inf s))
+unfolding neg
+turned-cond true s x y e = e
+turned-cond false s x y e = refl
+
+turned-units : (f : Format) (s : Bool) (q k : ℕ) → units f (not s) q k ≡ neg (units f s q k)
+unfolding units
+turned-units f s q k =
+    turned-cond (ltb (q * 2 ^ k) (2 ^ (low f + suc (emax f)))) s (odd (suc (prec f)) (not s) q k (low f)) (odd (suc (prec f)) s q k (low f)) (turned-odd (suc (prec f)) s q k (low f))
+
+turned-round : (f : Format) (s : Bool) (num den : ℕ) → round f (not s) num den ≡ neg (round f s num den)
+unfolding round
+turned-round f s num den = turned-units f s _ _
+
+turned-mul : (v : Float) → mul binary32 v (unit true) ≡ neg (mul binary32 v (unit false))
+unfolding mul neg
+turned-mul nan = refl
+turned-mul (inf true) = refl
+turned-mul (inf false) = refl
+turned-mul (fin true m e) = turned-round binary32 true (m * up e * 1) (down e * 16777216)
+turned-mul (fin false m e) = turned-round binary32 false (m * up e * 1) (down e * 16777216)
+
+pub counted-turned : (s : Bool) (w : ℕ) → counted (unit s) w ≡ cond s (neg (centred w)) (centred w)
+unfolding counted
+counted-turned true w = turned-mul (ofInt binary32 (pos w -ℤ pos 20971520))
+counted-turned false w = refl

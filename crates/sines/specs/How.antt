@@ -65,9 +65,15 @@ fixedSine x = sineSum (sineEntry (place x)) (cosineEntry (place x)) (even (squar
 unfoldable pub fixedCosine : ℕ → ℕ
 fixedCosine x = cosineSum (sineEntry (place x)) (cosineEntry (place x)) (even (square (rest x))) (odd (rest x) (square (rest x)))
 
--- (w - 5 * 2 ^ 22) / 2 ^ 24
-unfoldable pub centred : ℕ → Float
-centred w = mul binary32 (ofInt binary32 (pos w -ℤ pos 20971520)) (fin false 1 (negsuc 23))
+-- (w - 5 * 2 ^ 22) times a unit, and / 2 ^ 24
+unfoldable pub counted : Float → ℕ → Float
+counted unit w = mul binary32 (ofInt binary32 (pos w -ℤ pos 20971520)) unit
+
+abbrev pub unit : Bool → Float
+unit s = fin s 1 (negsuc 23)
+
+abbrev pub centred : ℕ → Float
+centred w = counted (unit false) w
 
 -- ---- the functions
 abbrev pub bare : Float → ℕ

@@ -4,12 +4,10 @@ use crate::fixed;
 use numbers::door;
 use numbers::limits;
 ghost use mathlib.Core.Path.{_≡_};
-ghost use mathlib.Core.Bool.{cond};
 ghost use lib.Dec.{T, leb};
-ghost use lib.Ieee.{neg};
 ghost use Rattle.numbers.specs.Door.{permits};
 ghost use Rattle.numbers.specs.Limits.{sineArgument};
-ghost use Rattle.sines.specs.How.{sine, cosine, insideSine, insideCosine};
+ghost use Rattle.sines.specs.How.{sine, cosine, insideSine, insideCosine, unit};
 ghost use Rattle.sines.specs.Bands.{SineOf, CosineOf};
 
 // The sine of x radians.
@@ -56,11 +54,13 @@ pub fn sine_and_cosine(x: f32) -> Turn
     }
 }
 
-// y with the sign of the number whose bits are b, where y has none.
-fn signed(b: u32, y: f32) -> f32
-    ensures { λ r. ⌜ r ≡ cond (leb 2147483648 b) (neg y) y ⌝ }
+const UNIT: f32 = 0.000000059604644775390625;
+
+// The unit, 2^-24, with the sign of the number whose bits are b.
+fn unit_of(b: u32) -> f32
+    ensures { λ r. ⌜ r ≡ unit (leb 2147483648 b) ⌝ }
 {
-    if 0x8000_0000 <= b { -y } else { y }
+    if 0x8000_0000 <= b { -UNIT } else { UNIT }
 }
 
 // Below 2^-12 (pattern 0x3980_0000) the sine is x itself, nearer than 2^-38. S is odd.
@@ -73,7 +73,7 @@ pub(crate) fn inside_sine(x: f32) -> f32
     if m < 0x3980_0000 {
         return x;
     }
-    signed(b, fixed::centred(fixed::both(fixed::fixed_of(m)).sine))
+    fixed::counted(unit_of(b), fixed::both(fixed::fixed_of(m)).sine)
 }
 
 // Below 2^-12 the cosine is 1, nearer than 2^-25. C is even.
@@ -85,7 +85,7 @@ pub(crate) fn inside_cosine(x: f32) -> f32
     if m < 0x3980_0000 {
         return 1.0;
     }
-    fixed::centred(fixed::both(fixed::fixed_of(m)).cosine)
+    fixed::counted(UNIT, fixed::both(fixed::fixed_of(m)).cosine)
 }
 
 // Both, each as above.
@@ -103,7 +103,7 @@ fn inside_both(x: f32) -> Turn
     }
     let both = fixed::both(fixed::fixed_of(m));
     Turn {
-        sine: signed(b, fixed::centred(both.sine)),
-        cosine: fixed::centred(both.cosine),
+        sine: fixed::counted(unit_of(b), both.sine),
+        cosine: fixed::counted(UNIT, both.cosine),
     }
 }

@@ -3,7 +3,7 @@
 use crate::table;
 ghost use mathlib.Core.Path.{_≡_};
 ghost use Prim.Native.Nat.{_≤_, _<_};
-ghost use Rattle.sines.specs.How.{fixed, square, even, odd, PartsOf, sineSum, cosineSum, fixedSine, fixedCosine, centred};
+ghost use Rattle.sines.specs.How.{fixed, square, even, odd, PartsOf, sineSum, cosineSum, fixedSine, fixedCosine, counted};
 
 // The magnitude of an f32 from 2^-12 to 16 in units of 2^-35, from its bits without the sign.
 pub fn fixed_of(m: u32) -> u64
@@ -104,11 +104,11 @@ pub fn both(x: u64) -> Pair
     }
 }
 
-// The f32 of a number in units of 2^-24, plus 5 * 2^22.
-pub fn centred(w: u64) -> f32
+// So many units, of a number plus 5 * 2^22.
+pub fn counted(unit: f32, w: u64) -> f32
     requires { ⌜ (4194304 ≤ w) × (w ≤ 37748736) ⌝ }
-    ensures { λ r. ⌜ r ≡ centred w ⌝ }
+    ensures { λ r. ⌜ r ≡ counted unit w ⌝ }
 {
     let y = w as i32 - 20971520;
-    y as f32 * 0.000000059604644775390625
+    y as f32 * unit
 }

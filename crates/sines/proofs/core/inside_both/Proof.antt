@@ -1,11 +1,11 @@
 -- `sines::core::inside_both` meets its contract, as `inside_sine` and `inside_cosine` do.
 use borrow.Author.Needs.{needs}
-use mathlib.Core.Path.{_≡_, sym, ap, _∙_, subst}
-use mathlib.Core.Bool.{cond}
+use mathlib.Core.Path.{_≡_, sym, ap, ap₂, _∙_, subst}
 use lib.Dec.{T}
-use lib.Ieee.{Float, binary32, fits, neg, ofBits}
-use Rattle.sines.specs.How.{negative, fixedSine, fixedCosine, centred}
+use lib.Ieee.{binary32, fits, ofBits}
+use Rattle.sines.specs.How.{bare, negative, fixed, fixedSine, fixedCosine, counted, centred}
 use Rattle.sines.proofs.Values.{argument, no-nan}
+use Rattle.sines.proofs.Centred.{counted-turned}
 use Rattle.sines.proofs.Whole.{sine-fits, cosine-fits}
 use Rattle.sines.proofs.Sharp.{sine-tiny, sine-else, cosine-tiny, cosine-else}
 use Rattle.sines.proofs.core.inside_both.Statement.{statement}
@@ -28,19 +28,21 @@ fixed-of-requires c κs = (c .if1 .left, argument (c .before .args .x) (held (c 
 both-requires : tie.Need-both-requires
 both-requires c κs = search needs
 
-centred-requires : tie.Need-centred-requires
-centred-requires c κs =
-    sine-fits (c .before .fixed-of .result) (c .both .result .sine) (c .before .fixed-of .ensures .1) (c .both .ensures .0)
+unit-of-requires : tie.Need-unit-of-requires
+unit-of-requires c κs = search needs
 
-signed-requires : tie.Need-signed-requires
-signed-requires c κs = search needs
+counted-requires : tie.Need-counted-requires
+counted-requires c κs =
+    let b = c .before in
+    sine-fits (b .before .fixed-of .result) (b .both .result .sine) (b .before .fixed-of .ensures .1) (b .both .ensures .0)
 
-centred-requires-2 : tie.Need-centred-requires-2
-centred-requires-2 c κs =
+counted-requires-2 : tie.Need-counted-requires-2
+counted-requires-2 c κs =
     let b = c .before .before in
     cosine-fits (b .before .fixed-of .result) (b .both .result .cosine) (b .before .fixed-of .ensures .1) (b .both .ensures .1)
 
 returns-2 : tie.Need-returns-2
+unfolding ofBits
 returns-2 c =
     let s = c .before in
     let b = s .before .before in
@@ -48,8 +50,8 @@ returns-2 c =
     let x = f .before .before .args .x in
     let n = f .fixed-of .ensures .0 in
     let far = f .before .if1 .left in (
-      s .signed .ensures ∙ ap (λ (y : Float). cond (negative x) (neg y) y) (s .before .centred .ensures ∙ ap centred (b .both .ensures .0 ∙ ap fixedSine n)) ∙ sine-else x far,
-      c .centred2 .ensures ∙ ap centred (b .both .ensures .1 ∙ ap fixedCosine n) ∙ cosine-else x far,
+      s .counted .ensures ∙ ap₂ counted (s .before .unit-of .ensures) (b .both .ensures .0 ∙ ap fixedSine n) ∙ counted-turned (negative x) (fixedSine (fixed (bare x))) ∙ sine-else x far,
+      c .counted2 .ensures ∙ ap centred (b .both .ensures .1 ∙ ap fixedCosine n) ∙ cosine-else x far,
     )
 
 pub inside-both-spec : {M : Type 1} → statement M
@@ -60,7 +62,7 @@ inside-both-spec =
     returns
     fixed-of-requires
     both-requires
-    centred-requires
-    signed-requires
-    centred-requires-2
+    unit-of-requires
+    counted-requires
+    counted-requires-2
     returns-2)

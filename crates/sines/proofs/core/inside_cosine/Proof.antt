@@ -28,14 +28,15 @@ fixed-of-requires c κs = (c .if1 .left, argument (c .before .args .x) (held (c 
 both-requires : tie.Need-both-requires
 both-requires c κs = search needs
 
-centred-requires : tie.Need-centred-requires
-centred-requires c κs =
+counted-requires : tie.Need-counted-requires
+counted-requires c κs =
     cosine-fits (c .before .fixed-of .result) (c .both .result .cosine) (c .before .fixed-of .ensures .1) (c .both .ensures .1)
 
 returns-2 : tie.Need-returns-2
+unfolding ofBits
 returns-2 c =
     let b = c .before .before in
-    c .centred .ensures ∙ ap centred (c .before .both .ensures .1 ∙ ap fixedCosine (b .fixed-of .ensures .0)) ∙ cosine-else (b .before .before .args .x) (b .before .if1 .left)
+    c .counted .ensures ∙ ap centred (c .before .both .ensures .1 ∙ ap fixedCosine (b .fixed-of .ensures .0)) ∙ cosine-else (b .before .before .args .x) (b .before .if1 .left)
 
 pub inside-cosine-spec : {M : Type 1} → statement M
-inside-cosine-spec = tie.close (tie.spec float-to-bits-m returns fixed-of-requires both-requires centred-requires returns-2)
+inside-cosine-spec = tie.close (tie.spec float-to-bits-m returns fixed-of-requires both-requires counted-requires returns-2)

@@ -1,11 +1,11 @@
 -- `sines::core::inside_sine` meets its contract. A permitted argument has a bit pattern of at most that of 16, and the whole-number sine stays from -1 to 1.
 use borrow.Author.Needs.{needs}
-use mathlib.Core.Path.{_≡_, sym, ap, _∙_, subst}
-use mathlib.Core.Bool.{cond}
+use mathlib.Core.Path.{_≡_, sym, ap, ap₂, _∙_, subst}
 use lib.Dec.{T}
-use lib.Ieee.{Float, binary32, fits, neg}
-use Rattle.sines.specs.How.{negative, fixedSine, centred}
+use lib.Ieee.{binary32, fits}
+use Rattle.sines.specs.How.{bare, negative, fixed, fixedSine, counted}
 use Rattle.sines.proofs.Values.{argument, no-nan}
+use Rattle.sines.proofs.Centred.{counted-turned}
 use Rattle.sines.proofs.Whole.{sine-fits}
 use Rattle.sines.proofs.Sharp.{sine-tiny, sine-else}
 use Rattle.sines.proofs.core.inside_sine.Statement.{statement}
@@ -21,25 +21,29 @@ float-to-bits-b c = no-nan (c .args .x) (c .pre)
 returns : tie.Need-returns
 returns c = sine-tiny (c .before .args .x) (c .if1 .taken)
 
+unit-of-requires : tie.Need-unit-of-requires
+unit-of-requires c κs = search needs
+
 fixed-of-requires : tie.Need-fixed-of-requires
-fixed-of-requires c κs = (c .if1 .left, argument (c .before .args .x) (held (c .before)) (c .before .pre) .held .most)
+fixed-of-requires c κs =
+    let b = c .before in
+    (b .if1 .left, argument (b .before .args .x) (held (b .before)) (b .before .pre) .held .most)
 
 both-requires : tie.Need-both-requires
 both-requires c κs = search needs
 
-centred-requires : tie.Need-centred-requires
-centred-requires c κs = sine-fits (c .before .fixed-of .result) (c .both .result .sine) (c .before .fixed-of .ensures .1) (c .both .ensures .0)
-
-signed-requires : tie.Need-signed-requires
-signed-requires c κs = search needs
+counted-requires : tie.Need-counted-requires
+counted-requires c κs = sine-fits (c .before .fixed-of .result) (c .both .result .sine) (c .before .fixed-of .ensures .1) (c .both .ensures .0)
 
 returns-2 : tie.Need-returns-2
 returns-2 c =
-    let b = c .before .before .before in
-    let x = b .before .before .args .x in
-    c .signed .ensures
-    ∙ ap (λ (y : Float). cond (negative x) (neg y) y) (c .before .centred .ensures ∙ ap centred (c .before .before .both .ensures .0 ∙ ap fixedSine (b .fixed-of .ensures .0)))
-    ∙ sine-else x (b .before .if1 .left)
+    let f = c .before .before in
+    let u = f .before in
+    let x = u .before .before .args .x in
+    c .counted .ensures
+    ∙ ap₂ counted (u .unit-of .ensures) (c .before .both .ensures .0 ∙ ap fixedSine (f .fixed-of .ensures .0))
+    ∙ counted-turned (negative x) (fixedSine (fixed (bare x)))
+    ∙ sine-else x (u .before .if1 .left)
 
 pub inside-sine-spec : {M : Type 1} → statement M
-inside-sine-spec = tie.close (tie.spec float-to-bits-b returns fixed-of-requires both-requires centred-requires signed-requires returns-2)
+inside-sine-spec = tie.close (tie.spec float-to-bits-b returns unit-of-requires fixed-of-requires both-requires counted-requires returns-2)

@@ -1,4 +1,4 @@
--- `sines::fixed::centred` meets its contract. The difference lies from -2 ^ 24 to 2 ^ 24, so that an i32 and an f32 hold it.
+-- `sines::fixed::counted` meets its contract. The difference lies from -2 ^ 24 to 2 ^ 24, so that an i32 and an f32 hold it.
 use borrow.Author.Needs.{needs}
 use borrow.Author.Tests.{lt-ltb, le-ltb}
 use mathlib.Core.Path.{_≡_, refl, sym, ap, _∙_, subst}
@@ -8,15 +8,15 @@ use native.Mathlib.Omega.{arith}
 use lib.Dec.{T, lt→ltb, le→leb}
 use lib.IntN.{ℤ, pos, negsuc, _-ℤ_}
 use lib.Signed.{mag}
-use lib.Ieee.{Float, fin, binary32, mul, ofInt, ofBits, inFloat}
+use lib.Ieee.{binary32, mul, ofInt, inFloat}
 use mir.Syntax.{w32}
 use mir.Val.{SFits, toZ, ofZ}
 use mir.Facts.{toZ-ofZ}
 use Rattle.series.proofs.Order.{here-or-on}
-use Rattle.sines.specs.How.{centred}
+use Rattle.sines.specs.How.{counted}
 use Rattle.sines.proofs.Centred.{not-less, less}
-use Rattle.sines.proofs.fixed.centred.Statement.{statement}
-use Rattle.sines.proofs.fixed.centred.Tie as tie
+use Rattle.sines.proofs.fixed.counted.Statement.{statement}
+use Rattle.sines.proofs.fixed.counted.Tie as tie
 
 as-whole : (w : ℕ) → w ≤ 37748736 → toZ w32 w ≡ pos w
 as-whole w h = simp (lt-ltb w 2147483648 (few w h))
@@ -58,10 +58,10 @@ int-to-float-result c =
     subst (λ (z : ℤ). T (inFloat binary32 z)) (sym (back w (c .before .pre .0) (c .before .pre .1))) (held w (c .before .pre .0) (c .before .pre .1))
 
 returns : tie.Need-returns
-unfolding centred ofBits
+unfolding counted
 returns c =
     let w = c .before .args .w in
-    ap (λ (z : ℤ). mul binary32 (ofInt binary32 z) (ofBits binary32 864026624)) (back w (c .before .pre .0) (c .before .pre .1))
+    ap (λ (z : ℤ). mul binary32 (ofInt binary32 z) (c .before .args .unit)) (back w (c .before .pre .0) (c .before .pre .1))
 
-pub centred-spec : {M : Type 1} → statement M
-centred-spec = tie.close (tie.spec cast-y sub-y int-to-float-result returns)
+pub counted-spec : {M : Type 1} → statement M
+counted-spec = tie.close (tie.spec cast-y sub-y int-to-float-result returns)
