@@ -8,9 +8,11 @@ ghost use Rattle.roots.specs.Root.{squareRoot};
 pub fn square_root(x: f32) -> f32
     ensures { λ r. ⌜ r ≡ squareRoot x ⌝ }
 {
-    if (0.0 < x) & (x < f32::from_bits(0x7f80_0000)) {
-        f32::from_bits(digits::root_bits(f32::to_bits(x)))
-    } else {
-        x
+    if 0.0 < x {
+        let b = f32::to_bits(x);
+        if b < 0x7f80_0000 {
+            return f32::from_bits(digits::root_bits(b));
+        }
     }
+    x
 }

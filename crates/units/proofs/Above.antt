@@ -2,7 +2,7 @@
 use mathlib.Core.Path.{_≡_, refl, sym, ap, _∙_, subst}
 use mathlib.Core.Logic.{inl, inr}
 use Prim.Native.Nat.{ℕ, zero, suc, _+_, _*_, _/_, _%_, _^_, _≤_, _<_}
-use native.Mathlib.Nat.{zero-lt-suc, mul-pos, zero-mul}
+use native.Mathlib.Nat.{zero-lt-suc, mul-pos, zero-mul, lt-irrefl}
 use native.Mathlib.Omega.{arith}
 use mathlib.Core.Bool.{Bool, true, false, not, _&&_, cond, true≢false}
 use lib.IntN.{ℤ, pos}
@@ -18,18 +18,14 @@ use Rattle.units.proofs.Whole.{le-or-lt}
 use Rattle.units.proofs.Values.{mag-is}
 use Rattle.units.proofs.Patterns.{ofBits-is, sign-clear, bits-val}
 
--- ---- the two tests `0.0 < x` and `x < infinity`
+-- ---- the test `0.0 < x`, and then of the pattern
 pub zero-pattern : ofBits binary32 0 ≡ fin false 0 (pos 0)
 unfolding ofBits
 zero-pattern = refl
 
-pub infinity-pattern : ofBits binary32 2139095040 ≡ inf false
-unfolding ofBits
-infinity-pattern = refl
-
-pub infinity-no-nan : T (not (nanBits binary32 2139095040))
-unfolding nanBits
-infinity-no-nan = tt
+infinity-bits : toBits binary32 (inf false) < 2139095040 → ⊥
+unfolding toBits
+infinity-bits h = lt-irrefl 2139095040 h
 
 something : (m : ℕ) (e : ℤ) → ltb (0 * 1 * down e) (m * up e * 1) ≡ true → T (ltb 0 m)
 something zero e h = absurd (none (subst T (sym h) tt))
@@ -38,46 +34,39 @@ something zero e h = absurd (none (subst T (sym h) tt))
     none t = let l = ltb→lt (0 * 1 * down e) (0 * up e * 1) t in let z : 0 * up e ≡ 0 = zero-mul (up e) in omega arith
 something (suc m) e h = lt→ltb 0 (suc m) (zero-lt-suc m)
 
-above : (x : Float) → (lt (fin false 0 (pos 0)) x && lt x (inf false)) ≡ true → T (positive x)
+above : (x : Float) → lt (fin false 0 (pos 0)) x ≡ true → toBits binary32 x < 2139095040 → T (positive x)
 unfolding lt
-above nan h = absurd (true≢false (sym h))
-above (inf true) h = absurd (true≢false (sym h))
-above (inf false) h = absurd (true≢false (sym h))
-above (fin true m e) h = absurd (true≢false (sym h))
-above (fin false m e) h = something m e (first (ltb (0 * 1 * down e) (m * up e * 1)) h)
-  where
-    first : (b : Bool) → (b && true) ≡ true → b ≡ true
-    first true h = refl
-    first false h = h
+above nan h b = absurd (true≢false (sym h))
+above (inf true) h b = absurd (true≢false (sym h))
+above (inf false) h b = infinity-bits b
+above (fin true m e) h b = absurd (true≢false (sym h))
+above (fin false m e) h b = something m e h
 
-pub above-zero : (x : Float) → (lt (ofBits binary32 0) x && lt x (ofBits binary32 2139095040)) ≡ true → T (positive x)
-above-zero x h = above x (subst (λ (z : Float). (lt (fin false 0 (pos 0)) x && lt x z) ≡ true) infinity-pattern (subst (λ (z : Float). (lt z x && lt x (ofBits binary32 2139095040)) ≡ true) zero-pattern h))
+pub above-zero : (x : Float) → lt (ofBits binary32 0) x ≡ true → toBits binary32 x < 2139095040 → T (positive x)
+above-zero x h = above x (subst (λ (z : Float). lt z x ≡ true) zero-pattern h)
 
--- and what passes them not
-passes : (x : Float) → T (positive x) → (lt (fin false 0 (pos 0)) x && lt x (inf false)) ≡ true
+no-nan : (x : Float) → lt (fin false 0 (pos 0)) x ≡ true → T (not (isNan x))
+unfolding lt isNan
+no-nan nan h = absurd (true≢false (sym h))
+no-nan (inf s) h = tt
+no-nan (fin s m e) h = tt
+
+pub above-no-nan : (x : Float) → lt (ofBits binary32 0) x ≡ true → T (not (isNan x))
+above-no-nan x h = no-nan x (subst (λ (z : Float). lt z x ≡ true) zero-pattern h)
+
+-- and what passes it not
+passes : (x : Float) → T (positive x) → lt (fin false 0 (pos 0)) x ≡ true
 unfolding lt
 passes nan p = absurd p
 passes (inf s) p = absurd p
 passes (fin true m e) p = absurd p
-passes (fin false m e) p = is-true (ltb (0 * 1 * down e) (m * up e * 1) && true) (and (ltb (0 * 1 * down e) (m * up e * 1)) (lt→ltb (0 * 1 * down e) (m * up e * 1) (more m e (mul-pos (ltb→lt 0 m p) (up-pos e)))))
+passes (fin false m e) p = is-true (ltb (0 * 1 * down e) (m * up e * 1)) (lt→ltb (0 * 1 * down e) (m * up e * 1) (more m e (mul-pos (ltb→lt 0 m p) (up-pos e))))
   where
-    and : (b : Bool) → T b → T (b && true)
-    and true t = tt
-    and false t = t
-
     more : (m : ℕ) (e : ℤ) → 0 < m * up e → 0 * 1 * down e < m * up e * 1
     more m e h = let z : 0 * 1 * down e ≡ 0 = zero-mul (down e) in omega arith
 
-pub not-above-zero : (x : Float) → (lt (ofBits binary32 0) x && lt x (ofBits binary32 2139095040)) ≡ false → T (positive x) → ⊥
-not-above-zero x h p =
-    true≢false (sym (passes x p)
-    ∙ subst (λ (z : Float). (lt (fin false 0 (pos 0)) x && lt x z) ≡ false) infinity-pattern (subst (λ (z : Float). (lt z x && lt x (ofBits binary32 2139095040)) ≡ false) zero-pattern h))
-
-pub above-no-nan : (x : Float) → T (positive x) → T (not (isNan x))
-unfolding isNan
-above-no-nan nan p = absurd p
-above-no-nan (inf s) p = tt
-above-no-nan (fin s m e) p = tt
+pub not-above-zero : (x : Float) → lt (ofBits binary32 0) x ≡ false → T (positive x) → ⊥
+not-above-zero x h p = true≢false (sym (passes x p) ∙ subst (λ (z : Float). lt z x ≡ false) zero-pattern h)
 
 -- ---- the pattern of a value above zero is neither 0, nor that of an infinity, a NaN or a negative value
 odd-neg : (d q k l : ℕ) → T (positive (odd d true q k l)) → ⊥
