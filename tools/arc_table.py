@@ -1,11 +1,12 @@
 #!/usr/bin/env python3
 """arc_table.py: writes the two tables of the room `arcs`, as the arms of a Rattle `match`.
 
-    python3 tools/arc_table.py angles     the arms of `entry` in crates/arcs/src/table.rt
+    python3 tools/arc_table.py rows       the arms of `entry` in crates/arcs/src/table.rt
     python3 tools/arc_table.py seeds      the arms of `seed` in crates/arcs/src/whole_root.rt
 
-Angle k is 2^30 times the angle of the direction (128, k), to the nearest whole number. The checker holds each arm to
-`arcTangent k` (crates/arc_rows/specs/ArcTangent.antt), and that to the nearest-whole-number rule, both by computed tests.
+Row k has 2^30 times the angle of the direction (128, k), to the nearest whole number, and 2^45 over 128^2 + k^2, rounded
+down. The checker holds each arm to `arcTangent k` (crates/arc_rows/specs/ArcTangent.antt), that to the
+nearest-whole-number rule, and the second number to `lean k` (crates/arcs/specs/How.antt), all by computed tests.
 Seed i is 2^16 over the root of (i + 1/2) / 128, to the nearest whole number. Nothing but its bound is proved of it: what
 starts from it is mended, so that a wrong arm costs time and no digit.
 Whole numbers only: nothing here is rounded by a float."""
@@ -31,8 +32,8 @@ def nearest(x):
     return (2 * x.numerator + x.denominator) // (2 * x.denominator)
 
 
-def angles():
-    return [nearest(arctangent(k) * (1 << 30)) for k in range(129)]
+def rows():
+    return {k: (nearest(arctangent(k) * (1 << 30)), (1 << 45) // (16384 + k * k)) for k in range(129)}
 
 
 def seeds():
@@ -41,14 +42,14 @@ def seeds():
 
 
 def arms(values):
-    """One arm a line; the last value is the arm of all other numbers."""
+    """One arm a line; the last row is the arm of all other numbers."""
     last = max(values)
-    return "".join("        %s => %d,\n" % ("_" if k == last else k, values[k]) for k in sorted(values))
+    return "".join("        %s => Row(%d, %d),\n" % ("_" if k == last else k, *values[k]) for k in sorted(values))
 
 
 if __name__ == "__main__":
-    if sys.argv[1:] == ["angles"]:
-        print(arms(dict(enumerate(angles()))), end="")
+    if sys.argv[1:] == ["rows"]:
+        print(arms(rows()), end="")
     elif sys.argv[1:] == ["seeds"]:
         print("".join("        %d => %d,\n" % pair for pair in sorted(seeds().items())) + "        _ => %d," % (1 << 17))
     else:

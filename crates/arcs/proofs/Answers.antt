@@ -1,75 +1,133 @@
 -- What the functions on f32 answer is what `How` says, inside the table and outside it. Assumes nothing.
-use mathlib.Core.Path.{_≡_, refl, sym, ap, ap₂, _∙_, subst}
+use mathlib.Core.Path.{_≡_, refl, sym, ap, ap₂, _∙_, subst, subst₂}
 use mathlib.Core.Logic.{_⊎_, inl, inr}
-use mathlib.Core.Bool.{Bool, true, false, cond, _&&_}
-use Prim.Native.Nat.{ℕ, zero, suc, _+_, _-_, _*_, _/_, _%_, _^_, _≤_, _<_}
-use native.Mathlib.Nat.{le-trans, le-of-eq, lt-of-lt-of-le, not-le-of-lt, mul-le-mul}
+use mathlib.Core.Bool.{Bool, true, false, cond, _&&_, true≢false}
+use Prim.Native.Nat.{ℕ, zero, suc, _+_, _*_, _/_, _≤_, _<_}
+use native.Mathlib.Nat.{mul-one, mul-pos, mul-right-comm, mul-le-mul-right}
 use native.Mathlib.Omega.{arith}
-use lib.Dec.{T, lit<}
-use lib.Pow.{pow-mono}
-use lib.Ieee.{Float, binary32, units, fits, ofBits, toBits}
+use lib.Dec.{T, ltb}
+use lib.IntN.{pos}
+use lib.Pow.{pow-pos}
+use lib.Ieee.{Float, nan, inf, fin, binary32, up, down, units, round, fits, ofBits, toBits, ofInt}
+use lib.Ieee.Exact.{HasValue}
+use lib.Ieee.Back.{round-whole}
 use lib.Ieee.Fits.{and-l, and-r}
 use Rattle.numbers.specs.Door.{finite, permits, unless, either}
 use Rattle.numbers.specs.Limits.{arcCosineArgument}
 use Rattle.numbers.specs.Told.{choose}
-use Rattle.numbers.specs.declared.Answer.{Answer}
 use Rattle.numbers.specs.declared.Answer.the-variants.{Value, Refused}
 use Rattle.units.specs.Units.{mag, unity}
 use Rattle.units.specs.Patterns.{val}
-use Rattle.series.proofs.Order.{here-or-on}
-use Rattle.arcs.specs.How.{angle, turned, wholeRoot, partOf, side, insideArcCosine, arcCosine, scaleTo, common, levelAngle, finiteAtan2, atan2}
-use Rattle.arcs.specs.Digits.{fieldOf, digitsOf, Level}
+use Rattle.units.proofs.Values.{mag-is}
+use Rattle.units.proofs.Patterns.{bits-val}
+use Rattle.arcs.specs.How.{Sorted, angle, smaller, larger, ratio, angleOf, turned, partOf, side, insideArcCosine, arcCosine, finiteAtan2, atan2}
 use Rattle.arcs.specs.Wedges.{signBit, ArcCosineOf, Atan2Of}
 use Rattle.arcs.proofs.Beside.{Root}
 use Rattle.arcs.proofs.ArcRule.{large}
 use Rattle.arcs.proofs.WholeRoots.{root-of}
 use Rattle.arcs.proofs.Patterns.{sign, bare, mag-val, sign-val}
-use Rattle.arcs.proofs.Fields.{normal-val}
+use Rattle.arcs.proofs.Fields.{val-lt, val-le, val-ltb, at-most-unity}
+use Rattle.arcs.proofs.Ratios.{ratio-scale, smaller-le, larger-pos}
 use Rattle.arcs.proofs.ArcBand.{permitted-finite, at-most-one}
-use Rattle.arcs.proofs.Atan2Band.{level-zero}
+use Rattle.arcs.proofs.Atan2Band.{zero-angle}
 use Rattle.arcs.proofs.Bands.{arc-cosine-band, atan2-band}
 
--- ---- arc cosine. 1 has the pattern 1065353216
-above-one : (m : ℕ) → 1065353217 ≤ m → unity < val m
-above-one m h = elim (here-or-on (m / 8388608) 128) [
-  | inl g ↦ lt-of-lt-of-le (lit< {m = 2 ^ 149} {n = 8388609 * 2 ^ 126} tt) (le-trans (mul-le-mul (more g) (pow-mono {i = 126} {j = m / 8388608 - 1} (omega arith))) (le-of-eq (sym (normal-val m (omega arith)))))
-  | inr g ↦ lt-of-lt-of-le (lit< {m = 2 ^ 149} {n = 8388608 * 2 ^ 127} tt) (le-trans (mul-le-mul (least (m % 8388608)) (pow-mono {i = 127} {j = m / 8388608 - 1} (omega arith))) (le-of-eq (sym (normal-val m (omega arith)))))
-]
-  where
-    more : m / 8388608 < 128 → 8388609 ≤ 8388608 + m % 8388608
-    more g = omega arith
-
-    least : (t : ℕ) → 8388608 ≤ 8388608 + t
-    least t = omega arith
-
+-- ---- arc cosine
 module _ (q : Float) (f : T (fits binary32 q)) (h : T (permits arcCosineArgument q)) where
   abbrev b : ℕ
   b = toBits binary32 q
 
   pub pattern-le : bare b ≤ 1065353216
-  pattern-le = elim (here-or-on 1065353216 (bare b)) [
-    | inl g ↦ absurd (not-le-of-lt (above-one (bare b) g) (subst (λ (n : ℕ). n ≤ unity) (mag-val q f (permitted-finite q f h)) (at-most-one q f h)))
-    | inr g ↦ g
-  ]
+  pattern-le = at-most-unity (bare b) (subst (λ (n : ℕ). n ≤ unity) (mag-val q f (permitted-finite q f h)) (at-most-one q f h))
 
-  pub arc-is : (x y a : ℕ) (r : Float) → x ≡ partOf (val (bare b)) → y ≡ wholeRoot 26 (1125899906842624 - x * x) → a ≡ angle (sign b) x y → r ≡ turned false a → r ≡ insideArcCosine q
+  pub arc-is : (x y u v w a : ℕ) (i j r : Float) → x ≡ partOf (val (bare b)) → y ≡ side (x / 2) → u ≡ smaller (x / 2) y → v ≡ larger (x / 2) y → mag i ≡ u * unity → mag j ≡ v * unity → 0 < v
+      → w ≡ ratio (mag i) (mag j) → a ≡ angle (ltb (x / 2) y) (sign b) w → r ≡ turned false a → r ≡ insideArcCosine q
   unfolding insideArcCosine
-  arc-is x y a r ex ey ea er = er ∙ ap (turned false) (ea ∙ ap (angle (sign b) x) ey ∙ ap₂ (λ (s : Bool) (n : ℕ). angle s n (side n)) (sym (sign-val q f (permitted-finite q f h))) (ex ∙ ap partOf (sym (mag-val q f (permitted-finite q f h)))))
+  arc-is x y u v w a i j r ex ey eu ev ei ej p ew ea er =
+      er
+      ∙ ap (turned false)
+      (ea ∙ ap (angle (ltb (x / 2) y) (sign b)) (ew ∙ ap₂ ratio ei ej ∙ ratio-scale u v unity p (pow-pos 149) ∙ ap₂ ratio eu ev)
+      ∙ ap (angleOf (sign b) (x / 2)) ey
+      ∙ ap₂ (λ (s : Bool) (n : ℕ). angleOf s (n / 2) (side (n / 2))) (sym (sign-val q f (permitted-finite q f h))) (ex ∙ ap partOf (sym (mag-val q f (permitted-finite q f h)))))
 
--- the two sides of the vector: not both nothing, and not both 2 ^ 25
-pub sides-fit : (x y : ℕ) → x ≤ 33554432 → y ≡ wholeRoot 26 (1125899906842624 - x * x) → y ≤ 33554432 → (0 < x + y) × (x ≤ 33554432) × (y ≤ 33554432) × (x + y < 67108864)
-sides-fit x y h e k =
-    let R : Root x y = subst (λ (n : ℕ). Root x n) (sym e) (root-of x h) in
-    (some (large x y R), h, k, elim (here-or-on (x + y) 67108864) [ inl g ↦ g | inr g ↦ absurd (full (R .low) (mul-le-mul {n₁ = 33554432} {m₁ = 33554432} {n₂ = x} {m₂ = x} (omega arith) (omega arith)) (mul-le-mul {n₁ = 33554432} {m₁ = 33554432} {n₂ = y} {m₂ = y} (omega arith) (omega arith))) ])
+-- a whole number up to 2 ^ 24 as an f32
+pub whole-value : (n : ℕ) → n ≤ 16777216 → HasValue (ofInt binary32 (pos n)) false (n * unity) unity
+unfolding ofInt
+whole-value n h = more (round binary32 false n 1) (round-whole binary32 false n h)
   where
-    some : (16777216 ≤ x) ⊎ (16777216 ≤ y) → 0 < x + y
-    some (inl g) = omega arith
-    some (inr g) = omega arith
+    more : (z : Float) → HasValue z false n 1 → HasValue z false (n * unity) unity
+    more nan v = v
+    more (inf s) v = v
+    more (fin s m e) v = (v .0, ap (λ (k : ℕ). k * unity) (sym (mul-one (m * up e)) ∙ v .1) ∙ mul-right-comm n (down e) unity)
 
-    full : x * x + y * y ≤ 1125899906842624 → 33554432 * 33554432 ≤ x * x → 33554432 * 33554432 ≤ y * y → ⊥
-    full p i j = omega arith
+pub whole-mag : (n : ℕ) → n ≤ 16777216 → mag (ofInt binary32 (pos n)) ≡ n * unity
+whole-mag n h = mag-is (ofInt binary32 (pos n)) false (n * unity) (whole-value n h)
 
--- ---- atan2
+-- the two sides, sorted
+pub sorted-of : (u v : Float) (m n : ℕ) → HasValue u false m unity → HasValue v false n unity → m ≤ n → 0 < n → Sorted u v
+sorted-of u v m n hu hv l p =
+    let eu = mag-is u false m hu in
+    let ev = mag-is v false n hv in
+    record {
+      first = subst (λ (k : ℕ). HasValue u false k unity) (sym eu) hu;
+      second = subst (λ (k : ℕ). HasValue v false k unity) (sym ev) hv;
+      order = subst₂ _≤_ (sym eu) (sym ev) l;
+      some = subst (λ (k : ℕ). 0 < k) (sym ev) p;
+    }
+
+pub sides-le : (x y : ℕ) → x ≤ 16777216 → y ≤ 16777216 → (smaller x y ≤ 16777216) × (larger x y ≤ 16777216)
+sides-le x y h k = go (ltb x y)
+  where
+    go : (b : Bool) → (cond b x y ≤ 16777216) × (cond b y x ≤ 16777216)
+    go true = (h, k)
+    go false = (k, h)
+
+pub sides-some : (x y : ℕ) → x ≤ 16777216 → y ≡ side x → 0 < larger x y
+sides-some x y h e = above (large x y (subst (λ (n : ℕ). Root x n) (sym e) (root-of x h)))
+  where
+    above : {n : ℕ} → 11863283 ≤ n → 0 < n
+    above g = omega arith
+
+pub sides-sorted : (x y u v : ℕ) → x ≤ 16777216 → y ≤ 16777216 → y ≡ side x → u ≡ smaller x y → v ≡ larger x y → Sorted (ofInt binary32 (pos u)) (ofInt binary32 (pos v))
+sides-sorted x y u v h k e eu ev =
+    let l = sides-le x y h k in
+    subst₂ (λ (m n : ℕ). Sorted (ofInt binary32 (pos m)) (ofInt binary32 (pos n))) (sym eu) (sym ev)
+    (sorted-of (ofInt binary32 (pos (smaller x y))) (ofInt binary32 (pos (larger x y))) (smaller x y * unity) (larger x y * unity) (whole-value (smaller x y) (l .0)) (whole-value (larger x y) (l .1)) (mul-le-mul-right unity (smaller-le x y)) (mul-pos (sides-some x y h e) (pow-pos 149)))
+
+-- ---- atan2: the patterns have the order of their numbers
+bits-mag : (b : ℕ) → b < 2139095040 → mag (ofBits binary32 b) ≡ val b
+bits-mag b h = mag-is (ofBits binary32 b) false (val b) (bits-val b h)
+
+in-units : (s : Bool) (i j : ℕ) → angle (ltb i j) s (ratio (val (smaller i j)) (val (larger i j))) ≡ angleOf s (val i) (val j)
+in-units s i j = go (ltb i j) (ltb (val i) (val j)) (sym (val-ltb i j))
+  where
+    go : (p q : Bool) → p ≡ q → angle p s (ratio (val (cond p i j)) (val (cond p j i))) ≡ angle q s (ratio (cond q (val i) (val j)) (cond q (val j) (val i)))
+    go true true e = refl
+    go false false e = refl
+    go true false e = absurd (true≢false e)
+    go false true e = absurd (true≢false (sym e))
+
+pub patterns-lt : (i j : ℕ) → i < 2139095040 → j < 2139095040 → (smaller i j < 2139095040) × (larger i j < 2139095040)
+patterns-lt i j h k = go (ltb i j)
+  where
+    go : (b : Bool) → (cond b i j < 2139095040) × (cond b j i < 2139095040)
+    go true = (h, k)
+    go false = (k, h)
+
+pub patterns-sorted : (i j u v : ℕ) → i < 2139095040 → j < 2139095040 → 0 < i + j → u ≡ smaller i j → v ≡ larger i j → Sorted (ofBits binary32 u) (ofBits binary32 v)
+patterns-sorted i j u v h k p eu ev =
+    let l = patterns-lt i j h k in
+    subst₂ (λ (m n : ℕ). Sorted (ofBits binary32 m) (ofBits binary32 n)) (sym eu) (sym ev)
+    (sorted-of (ofBits binary32 (smaller i j)) (ofBits binary32 (larger i j)) (val (smaller i j)) (val (larger i j)) (bits-val (smaller i j) (l .0)) (bits-val (larger i j) (l .1)) (val-le (smaller i j) (larger i j) (smaller-le i j))
+    (val-lt 0 (larger i j) (larger-pos i j (either-of i j p))))
+  where
+    either-of : (i j : ℕ) → 0 < i + j → (0 < i) ⊎ (0 < j)
+    either-of zero j p = inr (plain p)
+      where
+        plain : 0 < 0 + j → 0 < j
+        plain g = omega arith
+    either-of (suc i) j p = inl (omega arith)
+
 module _ (y x : Float) (fy : T (fits binary32 y)) (fx : T (fits binary32 x)) (h : T (finite y && finite x)) where
   abbrev bx : ℕ
   bx = toBits binary32 x
@@ -77,22 +135,27 @@ module _ (y x : Float) (fy : T (fits binary32 y)) (fx : T (fits binary32 x)) (h 
   abbrev by : ℕ
   by = toBits binary32 y
 
-  of-bits : finiteAtan2 y x ≡ turned (sign by) (levelAngle (sign bx) (val (bare bx)) (val (bare by)))
+  of-bits : finiteAtan2 y x ≡ turned (sign by) (angleOf (sign bx) (val (bare bx)) (val (bare by)))
   unfolding finiteAtan2
   of-bits =
       let hy = and-l (finite y) (finite x) h in
       let hx = and-r (finite y) (finite x) h in
-      ap₂ (λ (m n : ℕ). turned (signBit y) (levelAngle (signBit x) m n)) (mag-val x fx hx) (mag-val y fy hy)
-      ∙ ap₂ (λ (s t : Bool). turned s (levelAngle t (val (bare bx)) (val (bare by)))) (sign-val y fy hy) (sign-val x fx hx)
+      ap₂ (λ (m n : ℕ). turned (signBit y) (angleOf (signBit x) m n)) (mag-val x fx hx) (mag-val y fy hy)
+      ∙ ap₂ (λ (s t : Bool). turned s (angleOf t (val (bare bx)) (val (bare by)))) (sign-val y fy hy) (sign-val x fx hx)
 
-  pub atan2-is : (X Y a : ℕ) (r : Float) → Level (val (bare bx)) (val (bare by)) X Y → a ≡ angle (sign bx) X Y → r ≡ turned (sign by) a → r ≡ finiteAtan2 y x
-  atan2-is X Y a r l ea er = er ∙ ap (turned (sign by)) (ea ∙ ap₂ (λ (m n : ℕ). angle (sign bx) m n) (l .x-is) (l .y-is)) ∙ sym of-bits
+  pub atan2-is : (u v w a : ℕ) (r : Float) → u ≡ smaller (bare bx) (bare by) → v ≡ larger (bare bx) (bare by) → u < 2139095040 → v < 2139095040 → w ≡ ratio (mag (ofBits binary32 u)) (mag (ofBits binary32 v))
+      → a ≡ angle (ltb (bare bx) (bare by)) (sign bx) w → r ≡ turned (sign by) a → r ≡ finiteAtan2 y x
+  atan2-is u v w a r eu ev lu lv ew ea er =
+      er
+      ∙ ap (turned (sign by))
+      (ea ∙ ap (angle (ltb (bare bx) (bare by)) (sign bx)) (ew ∙ ap₂ ratio (bits-mag u lu ∙ ap val eu) (bits-mag v lv ∙ ap val ev)) ∙ in-units (sign bx) (bare bx) (bare by))
+      ∙ sym of-bits
 
   pub atan2-zero : (a : ℕ) (r : Float) → bare bx + bare by ≡ 0 → a ≡ cond (sign bx) 13176795 0 → r ≡ turned (sign by) a → r ≡ finiteAtan2 y x
   atan2-zero a r z ea er =
       let i : bare bx ≡ 0 = omega arith in
       let j : bare by ≡ 0 = omega arith in
-      er ∙ ap (turned (sign by)) (ea ∙ sym (level-zero (sign bx)) ∙ sym (ap₂ (λ (m n : ℕ). levelAngle (sign bx) (val m) (val n)) i j)) ∙ sym of-bits
+      er ∙ ap (turned (sign by)) (ea ∙ sym (zero-angle (sign bx)) ∙ sym (ap₂ (λ (m n : ℕ). angleOf (sign bx) (val m) (val n)) i j)) ∙ sym of-bits
 
 pub zeros-le : (s : Bool) → cond s 13176795 0 ≤ 13176795
 zeros-le true = omega arith

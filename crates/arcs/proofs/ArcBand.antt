@@ -1,34 +1,33 @@
 -- `insideArcCosine` meets document 01's rule for arc cosine, at any e of F * 2 ^ -22 with F from 4 to 16. Assumes nothing.
-use mathlib.Core.Path.{_≡_, refl, sym, ap, ap₂, _∙_, subst}
-use mathlib.Core.Logic.{_⊎_, inl, inr}
+use mathlib.Core.Path.{_≡_, refl, sym, ap₂, _∙_, subst}
+use mathlib.Core.Logic.{_⊎_}
 use mathlib.Core.Bool.{Bool, true, false}
-use Prim.Native.Nat.{ℕ, _+_, _*_, _/_, _%_, _^_, _≤_, _<_}
+use Prim.Native.Nat.{ℕ, _+_, _*_, _^_, _≤_, _<_}
 use native.Mathlib.Nat.{le-of-eq, le-of-mul-le-mul-right, zero-add, add-zero}
 use native.Mathlib.Omega.{arith}
 use lib.Dec.{T, lit<}
 use lib.IntN.{pos}
-use lib.Ieee.{Float, fin, binary32, units, fits, toBits}
+use lib.Ieee.{Float, fin, binary32, size, units, fits, toBits}
 use lib.Ieee.Exact.{HasValue}
 use Rattle.numbers.specs.Door.{finite, permits}
 use Rattle.numbers.specs.Limits.{arcCosineArgument}
 use Rattle.units.specs.Units.{mag, unity, hi, lo}
-use Rattle.units.specs.Patterns.{val}
 use Rattle.units.proofs.Values.{part-finite}
 use Rattle.units.proofs.Door.{finite-is, permitted, permitted-mag}
 use Rattle.units.proofs.Table.{arc-cosine-argument-ends}
 use Rattle.series.specs.Fractions.{Fraction, _÷_, whole, signed, _≋_, value}
 use Rattle.series.proofs.Fractions.{same-sym, same-trans}
 use Rattle.arc_rows.specs.ArcTangent.{arcTangent}
-use Rattle.arcs.specs.How.{angle, wide, sharp, slope, turned, wholeRoot, partOf, side, insideArcCosine}
-use Rattle.arcs.specs.Wedges.{P, signBit, ArcCosine}
+use Rattle.arcs.specs.How.{angle, wide, sharp, slope, lean, ratio, angleOf, turned, wholeRoot, partOf, across, side, insideArcCosine}
+use Rattle.arcs.specs.Wedges.{signBit, ArcCosine}
 use Rattle.arcs.proofs.Numbers.{value-is, value-over}
 use Rattle.arcs.proofs.Places.{G, G-pos}
 use Rattle.arcs.proofs.Turn.{angle-le}
 use Rattle.arcs.proofs.Beside.{Root}
 use Rattle.arcs.proofs.ArcRule.{Part, large, sides, low-side, high-side}
 use Rattle.arcs.proofs.WholeRoots.{root-of}
-use Rattle.arcs.proofs.Parts.{part-le, part-of, exact-val}
-use Rattle.arcs.proofs.Patterns.{bare, sign-is, finite-of, mag-val, in-units}
+use Rattle.arcs.proofs.Parts.{across-le, part-of, exact-val}
+use Rattle.arcs.proofs.Patterns.{bare, finite-of, mag-val, in-units}
 use Rattle.arcs.proofs.Results.{turned-value}
 use Rattle.arcs.proofs.Atan2Band.{few, turned-is, turned-le}
 
@@ -38,8 +37,8 @@ permitted-finite q f h = subst T (sym (finite-is q)) (part-finite binary32 q (hi
 pub at-most-one : (q : Float) → T (fits binary32 q) → T (permits arcCosineArgument q) → mag q ≤ unity
 at-most-one q f h = permitted-mag arcCosineArgument 0 unity unity 0 arc-cosine-argument-ends unity (le-of-eq (zero-add unity)) (le-of-eq (add-zero unity)) q f h
 
-at-one : turned false (angle false (partOf (2 ^ 149)) (side (partOf (2 ^ 149)))) ≡ fin false 0 (pos 0)
-unfolding partOf wholeRoot angle wide sharp slope arcTangent turned units
+at-one : turned false (angleOf false (across (2 ^ 149)) (side (across (2 ^ 149)))) ≡ fin false 0 (pos 0)
+unfolding partOf ratio wholeRoot angle wide sharp slope lean arcTangent turned units size
 at-one = refl
 
 module _ (q : Float) (f : T (fits binary32 q)) (h : T (permits arcCosineArgument q)) where
@@ -47,22 +46,25 @@ module _ (q : Float) (f : T (fits binary32 q)) (h : T (permits arcCosineArgument
   is-finite = permitted-finite q f h
 
   abbrev Q : ℕ
-  Q = partOf (mag q)
+  Q = across (mag q)
 
-  pub Q-le : Q ≤ 33554432
-  Q-le = part-le (mag q) (at-most-one q f h)
+  pub Q-le : Q ≤ 16777216
+  Q-le = across-le (mag q) (at-most-one q f h)
 
   pub Q-root : Root Q (side Q)
   Q-root = root-of Q Q-le
 
   Q-part : Part (mag q) Q
-  Q-part = part-of (mag q) (subst (λ (n : ℕ). (n ≡ partOf n * 2 ^ 124) ⊎ (partOf n < 8388608)) (sym (mag-val q f is-finite)) (exact-val (bare (toBits binary32 q))))
+  Q-part = part-of (mag q) (subst (λ (n : ℕ). (n ≡ across n * 2 ^ 125) ⊎ (across n < 8388608)) (sym (mag-val q f is-finite)) (exact-val (bare (toBits binary32 q))))
 
   abbrev B : ℕ
-  B = angle (signBit q) Q (side Q)
+  B = angleOf (signBit q) Q (side Q)
 
   pub arc-le : B ≤ 13176795
-  arc-le = angle-le (signBit q) Q (side Q) (large Q (side Q) Q-root)
+  arc-le = angle-le (signBit q) Q (side Q) (above (large Q (side Q) Q-root))
+    where
+      above : {n : ℕ} → 11863283 ≤ n → 0 < n
+      above g = omega arith
 
   abbrev a : Float
   a = turned false B
@@ -110,7 +112,7 @@ module _ (q : Float) (f : T (fits binary32 q)) (h : T (permits arcCosineArgument
           most = turned-le false B arc-le .1;
           low = low-side e (256 * F) e-is e-pos (value q) q₀ (value a) (256 * B) i q-over j (value-over a) s;
           high = high-side e (256 * F) e-is e-pos (value q) q₀ (value a) (256 * B) i q-over j (value-over a) s;
-          of-one = λ k. ap₂ (λ (t : Bool) (n : ℕ). turned false (angle t (partOf n) (side (partOf n)))) (one-is k .0) (one-is k .1) ∙ at-one;
+          of-one = λ k. ap₂ (λ (t : Bool) (n : ℕ). turned false (angleOf t (across n) (side (across n)))) (one-is k .0) (one-is k .1) ∙ at-one;
         }
       where
         not-below : (v : Fraction) (n : ℕ) → v ≋ n ÷ G → 0 * v .over + v .minus * 1 ≤ v .plus * 1 + 0 * v .over

@@ -2,12 +2,11 @@
 use mathlib.Core.Path.{_≡_, refl, sym, ap, ap₂, _∙_, subst, subst₂}
 use mathlib.Core.Logic.{_⊎_, inl, inr}
 use mathlib.Core.Bool.{Bool, true, false, cond}
-use Prim.Native.Nat.{ℕ, zero, suc, _+_, _*_, _/_, _^_, _≤_, _<_}
+use Prim.Native.Nat.{ℕ, _+_, _*_, _^_, _≤_, _<_}
 use native.Mathlib.Nat.{eq-zero-or-pos}
 use native.Mathlib.Omega.{arith}
 use lib.Dec.{T, lit<}
-use lib.Pow.{pow-pos}
-use lib.Ieee.{Float, binary32, size, fits, toBits}
+use lib.Ieee.{Float, binary32, size, fits}
 use lib.Ieee.Exact.{HasValue}
 use Rattle.numbers.specs.Door.{finite}
 use Rattle.units.specs.Units.{mag}
@@ -15,13 +14,13 @@ use Rattle.units.proofs.Patterns.{one-value}
 use Rattle.series.specs.Fractions.{Fraction, _÷_, whole, negative, signed, _≋_, _≼_, value}
 use Rattle.series.proofs.Fractions.{same-sym, same-trans, negative-same, le-same}
 use Rattle.arc_rows.specs.ArcTangent.{arcTangent}
-use Rattle.arcs.specs.How.{angle, wide, sharp, slope, turned, scaleTo, common, levelAngle, finiteAtan2}
+use Rattle.arcs.specs.How.{angle, wide, sharp, slope, lean, partOf, ratio, angleOf, turned, finiteAtan2}
 use Rattle.arcs.specs.Wedges.{P, signBit, IsZero, Angle, Atan2}
 use Rattle.arcs.proofs.Numbers.{value-is, value-over, signed-same}
 use Rattle.arcs.proofs.Places.{G, G-pos}
 use Rattle.arcs.proofs.Turn.{Fine, upper, angle-le}
 use Rattle.arcs.proofs.Atan2Rule.{angle-of, mirror}
-use Rattle.arcs.proofs.Scaling.{cut-at, scale-large}
+use Rattle.arcs.proofs.Ratios.{larger-pos}
 use Rattle.arcs.proofs.Patterns.{sign-is, finite-of, in-units}
 use Rattle.arcs.proofs.Results.{turned-value, turned-fits}
 
@@ -95,25 +94,18 @@ zero-units x f h e =
         plain : n * 1 + 0 * u ≡ 0 * u + 0 * 1 → n ≡ 0
         plain g = omega arith
 
-pub zero-angle : (s : Bool) → angle s 0 0 ≡ cond s 13176795 0
-unfolding angle wide sharp slope arcTangent
+pub zero-angle : (s : Bool) → angleOf s 0 0 ≡ cond s 13176795 0
+unfolding angle wide sharp slope lean arcTangent ratio partOf size
 zero-angle true = refl
 zero-angle false = refl
 
-zero-scale : scaleTo (common 0 0) 0 ≡ 0
-unfolding scaleTo size
-zero-scale = refl
-
-pub level-zero : (s : Bool) → levelAngle s 0 0 ≡ cond s 13176795 0
-level-zero s = ap (λ (n : ℕ). angle s n n) zero-scale ∙ zero-angle s
-
-pub level-le : (s : Bool) (x y : ℕ) → levelAngle s x y ≤ 13176795
-level-le s x y = elim (eq-zero-or-pos x) [
+pub any-le : (s : Bool) (x y : ℕ) → angleOf s x y ≤ 13176795
+any-le s x y = elim (eq-zero-or-pos x) [
   | inl p ↦ elim (eq-zero-or-pos y) [
-    | inl q ↦ subst₂ (λ (m n : ℕ). levelAngle s m n ≤ 13176795) (sym p) (sym q) (subst (λ (n : ℕ). n ≤ 13176795) (sym (level-zero s)) (go s))
-    | inr q ↦ angle-le s (scaleTo (common x y) x) (scaleTo (common x y) y) (scale-large x y (inr q))
+    | inl q ↦ subst₂ (λ (m n : ℕ). angleOf s m n ≤ 13176795) (sym p) (sym q) (subst (λ (n : ℕ). n ≤ 13176795) (sym (zero-angle s)) (go s))
+    | inr q ↦ angle-le s x y (larger-pos x y (inr q))
   ]
-  | inr p ↦ angle-le s (scaleTo (common x y) x) (scaleTo (common x y) y) (scale-large x y (inl p))
+  | inr p ↦ angle-le s x y (larger-pos x y (inl p))
 ]
   where
     go : (s : Bool) → cond s 13176795 0 ≤ 13176795
@@ -123,7 +115,7 @@ level-le s x y = elim (eq-zero-or-pos x) [
 -- ---- the rule
 module _ (e : Fraction) (F : ℕ) (F-low : 4 ≤ F) (F-high : F ≤ 16) (e-is : e ≋ (256 * F) ÷ G) (e-pos : 0 < e .over) (y x : Float) (fy : T (fits binary32 y)) (fx : T (fits binary32 x)) (hy : T (finite y)) (hx : T (finite x)) where
   abbrev A : ℕ
-  A = levelAngle (signBit x) (mag x) (mag y)
+  A = angleOf (signBit x) (mag x) (mag y)
 
   U : ℕ
   U = 2 ^ 149
@@ -154,9 +146,7 @@ module _ (e : Fraction) (F : ℕ) (F-low : 4 ≤ F) (F-high : F ≤ 16) (e-is : 
   y-is = value-is y (signBit y) (mag y) (2 ^ 149) (in-units y fy hy)
 
   fine : (0 < mag x) ⊎ (0 < mag y) → Fine (256 * F) y₀ x₀ (256 * A)
-  fine p =
-      upper (256 * F) (omega arith) (omega arith) U U-pos (mag x) (mag y) (scaleTo (common (mag x) (mag y)) (mag x)) (scaleTo (common (mag x) (mag y)) (mag y)) (2 ^ 25) (2 ^ common (mag x) (mag y))
-      (cut-at (common (mag x) (mag y)) (mag x)) (cut-at (common (mag x) (mag y)) (mag y)) (pow-pos (common (mag x) (mag y))) (signBit x) (scale-large (mag x) (mag y) p)
+  fine p = upper (256 * F) (omega arith) (omega arith) U U-pos (mag x) (mag y) (larger-pos (mag x) (mag y) p) (signBit x)
 
   -- y and t with the same sign
   signed-angle : (s : Bool) (v t : Fraction) → 0 < v .over → 0 < t .over → v ≋ signed s y₀ → t ≋ signed s ((256 * A) ÷ G) → Fine (256 * F) y₀ x₀ (256 * A) → Angle e v (value x) t
@@ -175,21 +165,21 @@ module _ (e : Fraction) (F : ℕ) (F-low : 4 ≤ F) (F-high : F ≤ 16) (e-is : 
   t = turned (signBit y) A
 
   t-value : HasValue t (signBit y) (A * 2 ^ 127) (2 ^ 149)
-  t-value = turned-value (signBit y) A (few (level-le (signBit x) (mag x) (mag y)))
+  t-value = turned-value (signBit y) A (few (any-le (signBit x) (mag x) (mag y)))
 
   at-zeros : IsZero y → IsZero x → A ≡ cond (signBit x) 13176795 0
-  at-zeros p q = ap₂ (λ (a b : ℕ). levelAngle (signBit x) a b) (zero-units x fx hx q) (zero-units y fy hy p) ∙ level-zero (signBit x)
+  at-zeros p q = ap₂ (λ (a b : ℕ). angleOf (signBit x) a b) (zero-units x fx hx q) (zero-units y fy hy p) ∙ zero-angle (signBit x)
 
   itself : IsZero y → IsZero x → signBit x ≡ false → t ≡ y
   itself p q s =
       let none : A ≡ 0 = at-zeros p q ∙ ap (λ (b : Bool). cond {A = ℕ} b 13176795 0) s in
-      one-value t y (signBit y) 0 (turned-fits (signBit y) A (few (level-le (signBit x) (mag x) (mag y)))) fy
+      one-value t y (signBit y) 0 (turned-fits (signBit y) A (few (any-le (signBit x) (mag x) (mag y)))) fy
       (subst (λ (n : ℕ). HasValue t (signBit y) (n * 2 ^ 127) (2 ^ 149)) none t-value) (subst (λ (n : ℕ). HasValue y (signBit y) n (2 ^ 149)) (zero-units y fy hy p) (in-units y fy hy))
 
   half-turn : IsZero y → IsZero x → signBit x ≡ true → value t ≋ signed (signBit y) P
   half-turn p q s =
       let all : A ≡ 13176795 = at-zeros p q ∙ ap (λ (b : Bool). cond {A = ℕ} b 13176795 0) s in
-      same-trans (value t) (signed (signBit y) ((256 * A) ÷ G)) (signed (signBit y) P) (over (signBit y)) (turned-is (signBit y) A (level-le (signBit x) (mag x) (mag y)))
+      same-trans (value t) (signed (signBit y) ((256 * A) ÷ G)) (signed (signBit y) P) (over (signBit y)) (turned-is (signBit y) A (any-le (signBit x) (mag x) (mag y)))
       (subst (λ (n : ℕ). signed (signBit y) ((256 * n) ÷ G) ≋ signed (signBit y) P) (sym all) (signed-same (signBit y) ((256 * 13176795) ÷ G) P refl))
     where
       over : (s : Bool) → 0 < signed s ((256 * A) ÷ G) .over
@@ -200,10 +190,10 @@ module _ (e : Fraction) (F : ℕ) (F-low : 4 ≤ F) (F-high : F ≤ 16) (e-is : 
   unfolding finiteAtan2
   atan2-rule = record {
     is-number = finite-of t (signBit y) (A * 2 ^ 127) (2 ^ 149) t-value;
-    least = turned-le (signBit y) A (level-le (signBit x) (mag x) (mag y)) .0;
-    most = turned-le (signBit y) A (level-le (signBit x) (mag x) (mag y)) .1;
+    least = turned-le (signBit y) A (any-le (signBit x) (mag x) (mag y)) .0;
+    most = turned-le (signBit y) A (any-le (signBit x) (mag x) (mag y)) .1;
     sign = sign-is t (signBit y) (A * 2 ^ 127) (2 ^ 149) t-value;
-    angle = λ never. signed-angle (signBit y) (value y) (value t) (value-over y) (value-over t) y-is (turned-is (signBit y) A (level-le (signBit x) (mag x) (mag y))) (fine (some never));
+    angle = λ never. signed-angle (signBit y) (value y) (value t) (value-over y) (value-over t) y-is (turned-is (signBit y) A (any-le (signBit x) (mag x) (mag y))) (fine (some never));
     zero-right = itself;
     zero-left = half-turn;
   }

@@ -1,13 +1,12 @@
 -- What callers may take for granted of every answer of the cores: arc cosine is a finite number from 0 to P, atan2 one from -P to P, and the format holds it. Assumes nothing.
-use mathlib.Core.Path.{_≡_, refl, sym, ap, subst}
+use mathlib.Core.Path.{refl}
 use mathlib.Core.Bool.{Bool, true, false, _&&_}
-use Prim.Native.Nat.{ℕ, _+_, _*_, _^_, _≤_, _<_}
+use Prim.Native.Nat.{ℕ, _+_, _*_, _^_, _≤_}
 use native.Mathlib.Nat.{le-of-eq, le-trans, add-zero, zero-add, mul-le-mul-right}
 use native.Mathlib.Omega.{arith}
 use lib.Dec.{T, lit≤}
 use lib.IntN.{pos, negsuc}
 use lib.Ieee.{Float, fin, binary32, fits, le}
-use lib.Ieee.Exact.{HasValue}
 use Rattle.numbers.specs.Door.{finite, permits}
 use Rattle.numbers.specs.Limits.{arcCosineArgument}
 use Rattle.numbers.specs.Told.{choose}
@@ -15,12 +14,12 @@ use Rattle.units.specs.Units.{Part, unity, mag}
 use Rattle.units.proofs.Values.{plus-part, minus-part}
 use Rattle.units.proofs.Order.{le-part}
 use Rattle.units.proofs.Bounds.{Result}
-use Rattle.arcs.specs.How.{turned, insideArcCosine, arcCosine, finiteAtan2, atan2, levelAngle}
+use Rattle.arcs.specs.How.{turned, insideArcCosine, arcCosine, finiteAtan2, atan2, angleOf}
 use Rattle.arcs.specs.Wedges.{signBit}
 use Rattle.arcs.proofs.Patterns.{finite-of}
 use Rattle.arcs.proofs.Results.{turned-value, turned-fits}
 use Rattle.arcs.proofs.ArcBand.{arc-le}
-use Rattle.arcs.proofs.Atan2Band.{few, level-le}
+use Rattle.arcs.proofs.Atan2Band.{few, any-le}
 
 -- P, as an f32 and in units
 abbrev pub pi : Float
@@ -136,5 +135,5 @@ unfolding atan2 finiteAtan2
 atan2-bounds y x = go (finite y && finite x)
   where
     go : (b : Bool) → EitherWay (choose b (finiteAtan2 y x) (turned false 0))
-    go true = either-way (signBit y) (levelAngle (signBit x) (mag x) (mag y)) (level-le (signBit x) (mag x) (mag y))
+    go true = either-way (signBit y) (angleOf (signBit x) (mag x) (mag y)) (any-le (signBit x) (mag x) (mag y))
     go false = either-way false 0 nothing

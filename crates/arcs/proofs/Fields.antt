@@ -1,119 +1,91 @@
--- A bit pattern's number as digits times a power of two, and the shifts that cut it. Assumes nothing.
+-- A bit pattern's number as digits times a power of two: its order, and the shift that cuts it. Assumes nothing.
 use mathlib.Core.Path.{_≡_, refl, sym, ap, ap₂, _∙_, subst}
-use mathlib.Core.Logic.{_⊎_, inl, inr}
-use Prim.Native.Nat.{ℕ, zero, suc, _+_, _-_, _*_, _/_, _%_, _^_, _≤_, _<_, max}
-use native.Mathlib.Nat.{le-trans, le-of-eq, le-of-lt, lt-of-le-of-lt, lt-of-lt-of-le, mul-one, mul-comm, mul-assoc, mul-le-mul, mul-le-mul-left, mul-lt-mul-of-pos-right, mul-div-mul-right, div-lt-iff-lt-mul, div-le-self, div-one, le-div-iff-mul-le, div-mul-le-self}
+use mathlib.Core.Logic.{inl, inr}
+use mathlib.Core.Bool.{Bool, true, false, not}
+use Prim.Native.Nat.{ℕ, zero, suc, _+_, _-_, _*_, _/_, _%_, _^_, _≤_, _<_}
+use native.Mathlib.Nat.{le-trans, le-of-eq, lt-of-lt-of-le, not-le-of-lt, mul-le-mul, mul-le-mul-left, mul-lt-mul-of-pos-right, mul-div-mul-right, div-lt-iff-lt-mul, div-one, le-div-iff-mul-le, div-mul-le-self, pow-succ'}
 use native.Mathlib.Omega.{arith}
-use lib.Dec.{lit<, lit≤}
+use lib.Dec.{T, ltb, ltb→lt, nltb→le, lit<, lit≤}
 use lib.Pow.{pow-add, pow-pos, pow-mono}
+use Rattle.units.specs.Units.{unity}
 use Rattle.units.specs.Patterns.{valOf, val}
 use Rattle.series.proofs.Order.{here-or-on}
 use Rattle.arcs.specs.How.{partOf}
-use Rattle.arcs.specs.Digits.{fieldIn, digitsIn, fieldOf, digitsOf}
 
--- ---- the parts
-val-in : (x t : ℕ) → valOf x t ≡ digitsIn x t * 2 ^ (fieldIn x - 1)
-val-in zero t = sym (mul-one t)
-val-in (suc x) t = let e : x ≡ suc x - 1 = omega arith in ap (λ (k : ℕ). (8388608 + t) * 2 ^ k) e
-
-pub val-is : (m : ℕ) → val m ≡ digitsOf m * 2 ^ (fieldOf m - 1)
-unfolding fieldOf digitsOf
-val-is m = val-in (m / 8388608) (m % 8388608)
-
-pub field-low : (m : ℕ) → m < 8388608 → 1 ≡ fieldOf m
-unfolding fieldOf
-field-low m h = let e : m / 8388608 ≡ 0 = omega arith in ap fieldIn (sym e)
-
-pub field-high : (m : ℕ) → 8388608 ≤ m → m / 8388608 ≡ fieldOf m
-unfolding fieldOf
-field-high m h = go (m / 8388608) (omega arith)
+-- ---- the order
+under-next : (x t : ℕ) → t < 8388608 → valOf x t < 8388608 * 2 ^ x
+under-next zero t h = h
+under-next (suc x) t h = lt-of-lt-of-le (mul-lt-mul-of-pos-right (twice h) (pow-pos x)) (le-of-eq (more (2 ^ x) ∙ ap (λ (k : ℕ). 8388608 * k) (sym (pow-succ' 2 x))))
   where
-    go : (x : ℕ) → 0 < x → x ≡ fieldIn x
-    go zero p = absurd (no p)
-      where
-        no : 0 < 0 → ⊥
-        no g = omega arith
-    go (suc x) p = refl
+    twice : t < 8388608 → 8388608 + t < 16777216
+    twice g = omega arith
 
-pub digits-low : (m : ℕ) → m < 8388608 → m ≡ digitsOf m
-unfolding digitsOf
-digits-low m h =
-    let e : m / 8388608 ≡ 0 = omega arith in
-    let f : m % 8388608 ≡ m = omega arith in
-    sym (ap₂ digitsIn e f)
+    more : (p : ℕ) → 16777216 * p ≡ 8388608 * (2 * p)
+    more p = omega arith
 
-pub digits-high : (m : ℕ) → 8388608 ≤ m → 8388608 + m % 8388608 ≡ digitsOf m
-unfolding digitsOf
-digits-high m h = go (m / 8388608) (omega arith)
+same-field : (x s t : ℕ) → s < t → valOf x s < valOf x t
+same-field zero s t h = h
+same-field (suc x) s t h = mul-lt-mul-of-pos-right (more h) (pow-pos x)
   where
-    go : (x : ℕ) → 0 < x → 8388608 + m % 8388608 ≡ digitsIn x (m % 8388608)
-    go zero p = absurd (no p)
-      where
-        no : 0 < 0 → ⊥
-        no g = omega arith
-    go (suc x) p = refl
+    more : s < t → 8388608 + s < 8388608 + t
+    more g = omega arith
 
-pub digits-lt : (m : ℕ) → digitsOf m < 16777216
-digits-lt m = elim (here-or-on m 8388608) [
-  | inl h ↦ subst (λ (n : ℕ). n < 16777216) (digits-low m h) (omega arith)
-  | inr h ↦ subst (λ (n : ℕ). n < 16777216) (digits-high m h) (omega arith)
+next-field : (x y s t : ℕ) → s < 8388608 → x < y → valOf x s < valOf y t
+next-field x zero s t h g = absurd (no g)
+  where
+    no : x < 0 → ⊥
+    no k = omega arith
+next-field x (suc y) s t h g = lt-of-lt-of-le (under-next x s h) (mul-le-mul (least t) (pow-mono {i = x} {j = y} (omega arith)))
+  where
+    least : (t : ℕ) → 8388608 ≤ 8388608 + t
+    least t = omega arith
+
+pub val-lt : (a b : ℕ) → a < b → val a < val b
+val-lt a b h = elim (here-or-on (a / 8388608) (b / 8388608)) [
+  | inl g ↦ next-field (a / 8388608) (b / 8388608) (a % 8388608) (b % 8388608) (omega arith) g
+  | inr g ↦ let e : b / 8388608 ≡ a / 8388608 = omega arith in subst (λ (x : ℕ). valOf (a / 8388608) (a % 8388608) < valOf x (b % 8388608)) (sym e) (same-field (a / 8388608) (a % 8388608) (b % 8388608) (omega arith))
 ]
 
-pub field-pos : (m : ℕ) → 1 ≤ fieldOf m
-field-pos m = elim (here-or-on m 8388608) [
-  | inl h ↦ subst (λ (n : ℕ). 1 ≤ n) (field-low m h) (omega arith)
-  | inr h ↦ subst (λ (n : ℕ). 1 ≤ n) (field-high m h) (omega arith)
+pub val-le : (a b : ℕ) → a ≤ b → val a ≤ val b
+val-le a b h = elim (here-or-on a b) [
+  | inl g ↦ let l = val-lt a b g in omega arith
+  | inr g ↦ let e : a ≡ b = omega arith in le-of-eq (ap val e)
 ]
 
--- a larger pattern has no smaller field
-pub field-mono : (a b : ℕ) → a ≤ b → fieldOf a ≤ fieldOf b
-field-mono a b h = elim (here-or-on a 8388608) [
-  | inl k ↦ subst (λ (n : ℕ). n ≤ fieldOf b) (field-low a k) (field-pos b)
-  | inr k ↦ subst (λ (n : ℕ). n ≤ fieldOf b) (field-high a k) (subst (λ (n : ℕ). a / 8388608 ≤ n) (field-high b (le-trans k h)) (omega arith))
-]
+pub val-ltb : (a b : ℕ) → ltb (val a) (val b) ≡ ltb a b
+val-ltb a b = go (ltb (val a) (val b)) (ltb a b) (ltb→lt (val a) (val b)) (nltb→le (val a) (val b)) (ltb→lt a b) (nltb→le a b)
+  where
+    go : (p q : Bool) → (T p → val a < val b) → (T (not p) → val b ≤ val a) → (T q → a < b) → (T (not q) → b ≤ a) → p ≡ q
+    go true true i j k l = refl
+    go false false i j k l = refl
+    go true false i j k l = absurd (not-le-of-lt (i tt) (val-le b a (l tt)))
+    go false true i j k l = absurd (not-le-of-lt (val-lt a b (k tt)) (j tt))
 
--- ---- a shift to the right
+-- 1 has the pattern 1065353216
+pub at-most-unity : (m : ℕ) → val m ≤ unity → m ≤ 1065353216
+at-most-unity m h = elim (here-or-on 1065353216 m) [ inl g ↦ absurd (not-le-of-lt (val-lt 1065353216 m g) h) | inr g ↦ g ]
+
+-- ---- in units of 2 ^ -25
 cancel : (t d f : ℕ) → t * 2 ^ f / 2 ^ (d + f) ≡ t / 2 ^ d
 cancel t d f = ap (λ (k : ℕ). t * 2 ^ f / k) (pow-add 2 d f) ∙ mul-div-mul-right t (2 ^ d) (pow-pos f)
 
-pub shifted-is : (m e : ℕ) → fieldOf m ≤ e → 2 * digitsOf m / 2 ^ (e - fieldOf m) ≡ val m * 2 / 2 ^ (e - 1)
-shifted-is m e h =
-    let p = field-pos m in
-    let j : e - 1 ≡ e - fieldOf m + (fieldOf m - 1) = omega arith in
-    sym (ap₂ (λ (a k : ℕ). a / 2 ^ k) (ap (λ (v : ℕ). v * 2) (val-is m) ∙ move (digitsOf m) (2 ^ (fieldOf m - 1))) j ∙ cancel (2 * digitsOf m) (e - fieldOf m) (fieldOf m - 1))
-  where
-    move : (a k : ℕ) → a * k * 2 ≡ 2 * a * k
-    move a k = omega arith
-
-pub nothing-left : (t d : ℕ) → t < 33554432 → 32 ≤ d → 0 ≡ t / 2 ^ d
-nothing-left t d h k = none (t / 2 ^ d) (div-lt-iff-lt-mul {k = 2 ^ d} {x = t} {y = 1} (pow-pos d) .1 (lt-of-lt-of-le h (le-trans (lit≤ {m = 33554432} {n = 2 ^ 32} tt) (le-trans (pow-mono k) (le-of-eq (one (2 ^ d)))))))
-  where
-    none : (n : ℕ) → n < 1 → 0 ≡ n
-    none n g = omega arith
-
-    one : (n : ℕ) → n ≡ 1 * n
-    one n = omega arith
-
-pub shifted-lt : (t d : ℕ) → t < 33554432 → t / 2 ^ d < 33554432
-shifted-lt t d h = lt-of-le-of-lt (div-le-self t (2 ^ d)) h
-
--- ---- |q| in units of 2 ^ -25
 pub part-zero : (m : ℕ) → m / 8388608 < 96 → 0 ≡ partOf (val m)
 unfolding partOf
 part-zero m h = none (val m / 2 ^ 124) (div-lt-iff-lt-mul {k = 2 ^ 124} {x = val m} {y = 1} (pow-pos 124) .1
-    (lt-of-le-of-lt (le-of-eq (val-is m)) (lt-of-lt-of-le (mul-lt-mul-of-pos-right (digits-lt m) (pow-pos (fieldOf m - 1))) (le-trans (mul-le-mul-left 16777216 (pow-mono few)) (lit≤ {m = 16777216 * 2 ^ 100} {n = 1 * 2 ^ 124} tt)))))
+    (lt-of-lt-of-le (under-next (m / 8388608) (m % 8388608) (omega arith)) (le-trans (mul-le-mul-left 8388608 (pow-mono {i = m / 8388608} {j = 100} (omega arith))) (lit≤ {m = 8388608 * 2 ^ 100} {n = 1 * 2 ^ 124} tt))))
   where
     none : (n : ℕ) → n < 1 → 0 ≡ n
     none n g = omega arith
 
-    few : fieldOf m - 1 ≤ 100
-    few = elim (here-or-on m 8388608) [
-      | inl k ↦ subst (λ (n : ℕ). n - 1 ≤ 100) (field-low m k) (omega arith)
-      | inr k ↦ subst (λ (n : ℕ). n - 1 ≤ 100) (field-high m k) (omega arith)
-    ]
-
-pub normal-val : (m : ℕ) → 8388608 ≤ m → val m ≡ (8388608 + m % 8388608) * 2 ^ (m / 8388608 - 1)
-normal-val m h = val-is m ∙ ap₂ (λ (a k : ℕ). a * 2 ^ (k - 1)) (sym (digits-high m h)) (sym (field-high m h))
+normal-val : (m : ℕ) → 8388608 ≤ m → val m ≡ (8388608 + m % 8388608) * 2 ^ (m / 8388608 - 1)
+normal-val m h = go (m / 8388608) (omega arith)
+  where
+    go : (x : ℕ) → 0 < x → valOf x (m % 8388608) ≡ (8388608 + m % 8388608) * 2 ^ (x - 1)
+    go zero p = absurd (no p)
+      where
+        no : 0 < 0 → ⊥
+        no g = omega arith
+    go (suc x) p = let e : x ≡ suc x - 1 = omega arith in ap (λ (k : ℕ). (8388608 + m % 8388608) * 2 ^ k) e
 
 -- 2 ^ 2 more above, and below
 wider : (n : ℕ) → n / 2 ^ 124 ≡ n * 4 / 2 ^ 126

@@ -1,8 +1,8 @@
 -- u C < v S at d past the computed angle: the quadratic bounds and the quotient z of 2 ^ 30 y by x give it with 2 ^ -21 to spare. Assumes nothing.
 -- The numerals are powers of two: 2 ^ 30 is 1073741824, 2 ^ 31 2147483648, 2 ^ 61 2305843009213693952, 2 ^ 91 2475880078570760549798248448; 2097152 is 2 ^ 21.
-use Prim.Native.Nat.{ℕ, suc, _+_, _*_, _≤_, _<_, _-_}
-use mathlib.Core.Path.{_≡_, refl, ap}
-use native.Mathlib.Nat.{mul-comm, mul-assoc, mul-left-comm, mul-le-mul, mul-le-mul-left, mul-le-mul-right, add-mul, mul-add, one-mul}
+use Prim.Native.Nat.{ℕ, _+_, _*_, _≤_}
+use mathlib.Core.Path.{_≡_, ap}
+use native.Mathlib.Nat.{mul-assoc, mul-left-comm, mul-le-mul-left, mul-le-mul-right, add-mul, mul-add, one-mul}
 use native.Mathlib.Omega.{arith}
 use Rattle.arcs.proofs.Turned.{part, y-high, x-high}
 
@@ -40,7 +40,7 @@ quotient x y z M a h hM =
 
 pub high : (u v k x y z w d M a b s s' c c' D : ℕ) →
     u ≤ v → y + k * v ≡ 128 * u → x ≡ 128 * v + k * u → 1073741824 * y ≤ (z + 1) * x →
-    w ≡ z + d → 896 ≤ d → w ≤ 16777216 → M + w * w ≡ 2305843009213693952 →
+    w ≡ z + d → 780 ≤ d → w ≤ 16777216 → M + w * w ≡ 2305843009213693952 →
     k * a ≤ 128 * b + 256 * D → 137438953472 * (v * D) ≤ x * a →
     2305843009213693952 * b + 2147483648 * (w * a) + 2475880078570760549798248448 * s' ≤ 2475880078570760549798248448 * s + w * w * b + 295147905179352825856 * D →
     2475880078570760549798248448 * c + 2147483648 * (w * b) + w * w * a ≤ 2305843009213693952 * a + 2475880078570760549798248448 * c' + 295147905179352825856 * D →
@@ -60,5 +60,5 @@ high u v k x y z w d M a b s s' c c' D huv hy hx hz hw hd hW hM hk hn hs hc =
     let E1 : M * (y * a) ≤ 2147483648 * (z * (x * a)) + 2147483648 * (x * a) = quotient x y z M a hz hM' in
     let E2 : w * (x * a) ≡ (z + d) * (x * a) = ap (λ (n : ℕ). n * (x * a)) hw in
     let E3 : (z + d) * (x * a) ≡ z * (x * a) + d * (x * a) = add-mul z d (x * a) in
-    let E4 : 896 * (x * a) ≤ d * (x * a) = mul-le-mul-right (x * a) hd in
+    let E4 : 780 * (x * a) ≤ d * (x * a) = mul-le-mul-right (x * a) hd in
     omega arith

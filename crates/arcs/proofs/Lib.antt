@@ -1,11 +1,14 @@
 mod Turned
+mod Rest
 mod High
 mod Low
 mod Under
 mod FirstOctant
+mod Fields
+mod Patterns
+mod Ratios
 mod Carry
 mod Octants
-mod Cut
 mod Transfer
 mod Beside
 mod Numbers
@@ -13,19 +16,14 @@ mod Places
 mod Turn
 mod Atan2Rule
 mod ArcRule
-mod Patterns
 mod Results
 mod WholeRoots
-mod Scaling
 mod Parts
 mod Atan2Band
 mod ArcBand
 mod Ranges
 mod Tabled
 mod Seeds
-mod Fields
-mod Leveling
-mod Raising
 pub mod Bands
 pub mod Bounds
 mod Answers

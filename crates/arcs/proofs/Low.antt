@@ -1,8 +1,8 @@
 -- v S < u C at d before the computed angle, where the entry of the table lies further back: likewise. Assumes nothing.
 -- The numerals are powers of two: 2 ^ 30 is 1073741824, 2 ^ 31 2147483648, 2 ^ 61 2305843009213693952, 2 ^ 91 2475880078570760549798248448; 2097152 is 2 ^ 21.
-use Prim.Native.Nat.{ℕ, suc, _+_, _*_, _≤_, _<_, _-_}
+use Prim.Native.Nat.{ℕ, _+_, _*_, _≤_}
 use mathlib.Core.Path.{_≡_, refl, ap}
-use native.Mathlib.Nat.{mul-comm, mul-assoc, mul-left-comm, mul-le-mul, mul-le-mul-left, mul-le-mul-right, add-mul, mul-add, one-mul}
+use native.Mathlib.Nat.{mul-assoc, mul-left-comm, mul-le-mul, mul-le-mul-left, mul-le-mul-right, add-mul, mul-add}
 use native.Mathlib.Omega.{arith}
 use Rattle.arcs.proofs.Turned.{part, y-low, x-low}
 
@@ -51,7 +51,7 @@ quotient x y z w M a h hz hw hM =
 
 pub low : (u v k x y z w d M a b s s' c c' D : ℕ) →
     u ≤ v → y + k * v ≡ 128 * u → x ≡ 128 * v + k * u → z * x ≤ 1073741824 * y → z ≤ 8388608 →
-    w + d ≡ z → 896 ≤ d → M + w * w ≡ 2305843009213693952 →
+    w + d ≡ z → 880 ≤ d → M + w * w ≡ 2305843009213693952 →
     128 * b ≤ k * a + 256 * D → 137438953472 * (v * D) ≤ x * a →
     2475880078570760549798248448 * s + w * w * b ≤ 2305843009213693952 * b + 2147483648 * (w * a) + 2475880078570760549798248448 * s' + 4611686018427387904 * D →
     2305843009213693952 * a + 2475880078570760549798248448 * c' ≤ 2475880078570760549798248448 * c + 2147483648 * (w * b) + w * w * a + 4611686018427387904 * D →
@@ -73,5 +73,5 @@ low u v k x y z w d M a b s s' c c' D huv hy hx hz hz' hw hd hM hk hn hs hc =
     let E1 : 2147483648 * (z * (x * a)) ≤ M * (y * a) + 549755813888 * (x * a) = quotient x y z w M a hz hz' (omega arith) hM in
     let E2 : (w + d) * (x * a) ≡ z * (x * a) = ap (λ (n : ℕ). n * (x * a)) hw in
     let E3 : (w + d) * (x * a) ≡ w * (x * a) + d * (x * a) = add-mul w d (x * a) in
-    let E4 : 896 * (x * a) ≤ d * (x * a) = mul-le-mul-right (x * a) hd in
+    let E4 : 880 * (x * a) ≤ d * (x * a) = mul-le-mul-right (x * a) hd in
     omega arith

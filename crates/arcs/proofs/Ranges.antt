@@ -1,66 +1,68 @@
 -- What the functions on whole numbers ask: that nothing overflows, and what each choice answers. Assumes nothing.
 use Prim.Native.Nat.{ℕ, zero, suc, _+_, _*_, _-_, _/_, _%_, _≤_, _<_}
-use mathlib.Core.Path.{_≡_, refl, sym, ap, ap₂, _∙_, subst}
-use mathlib.Core.Bool.{Bool, true, false, not, cond}
-use native.Mathlib.Nat.{mul-le-mul}
+use mathlib.Core.Path.{_≡_, sym, ap, _∙_, subst}
+use mathlib.Core.Bool.{Bool, true, false, cond}
+use native.Mathlib.Nat.{mul-le-mul, mul-le-mul-left, div-le-of-le-mul}
 use native.Mathlib.Omega.{arith}
-use lib.Dec.{T, ltb, ltb→lt, nltb→le}
 use Rattle.arc_rows.specs.ArcTangent.{arcTangent}
-use Rattle.arcs.specs.How.{quarter, half, place, along, across, rest, slope, sharp, wide, angle}
-use Rattle.arcs.proofs.FirstOctant.{Split, split}
+use Rattle.arcs.specs.How.{quarter, half, place, lean, straight, bend, slope, sharp, wide, angle}
+use Rattle.arcs.proofs.Rest.{close}
 
--- ---- `slope`
-pub record Fit (u v : ℕ) : Type 0 where
-  pub ky : place u v * v ≤ 128 * u
-  pub ku : place u v * u ≤ 4294967296
-  pub k-lt : place u v < 129
-  pub z-le : rest u v ≤ 8388608
-  pub y-le : across u v ≤ 4294967296
-  pub x-pos : 0 < along u v
+-- ---- `slope`: l is the table's second number
+abbrev pub straightBy : ℕ → ℕ → ℕ
+straightBy w l = w % 262144 * l / 67108864
 
-pub fit : (u v : ℕ) → u ≤ v → 0 < v → v ≤ 33554432 → Fit u v
-fit u v h p l =
-    let S = split u v h p in
-    let k : place u v ≤ 128 = omega (arith, S .k-lt) in
-    let w : u ≤ 33554432 = omega arith in
-    record { ky = omega (arith, S .turned-y); ku = mul-le-mul k w; k-lt = S .k-lt; z-le = S .z-le; y-le = omega arith; x-pos = omega arith }
+abbrev pub bendBy : ℕ → ℕ → ℕ
+bendBy w l = straightBy w l * straightBy w l * place w / 137438953472
 
-pub slope-is : (u v a : ℕ) → a ≡ arcTangent (place u v) → a + rest u v ≡ slope u v
+pub record Steps (w l : ℕ) : Type 0 where
+  pub product : w % 262144 * l ≤ 562949953421312
+  pub straight-le : straightBy w l ≤ 8388608
+  pub square : straightBy w l * straightBy w l ≤ 70368744177664
+  pub cube : straightBy w l * straightBy w l * place w ≤ 9007199254740992
+  pub bend-le : bendBy w l ≤ straightBy w l
+
+pub steps : (w l : ℕ) → w ≤ 33554432 → l ≤ 2147483648 → Steps w l
+steps w l h k =
+    let p : w % 262144 * l ≤ 262144 * 2147483648 = mul-le-mul (rest-le) k in
+    let s : straightBy w l ≤ 8388608 = omega arith in
+    let q : straightBy w l * straightBy w l ≤ 8388608 * 8388608 = mul-le-mul s s in
+    let i : place w ≤ 128 = omega arith in
+    record {
+      product = p;
+      straight-le = s;
+      square = q;
+      cube = mul-le-mul q i;
+      bend-le = div-le-of-le-mul 137438953472 {n = straightBy w l} (under (straightBy w l) (place w) s i);
+    }
+  where
+    rest-le : w % 262144 ≤ 262144
+    rest-le = omega arith
+
+    under : (s k : ℕ) → s ≤ 8388608 → k ≤ 128 → s * s * k ≤ 137438953472 * s
+    under s k i j = omega (arith, mul-le-mul-left s (mul-le-mul i j))
+
+pub slope-is : (w a l : ℕ) → w ≤ 33554432 → a ≡ arcTangent (place w) → a ≤ 843314857 → l ≡ lean (place w) → (a + (straightBy w l - bendBy w l) ≡ slope w) × (a + (straightBy w l - bendBy w l) ≤ 851703465)
 unfolding slope
-slope-is u v a e = ap (λ (n : ℕ). n + rest u v) e
+slope-is w a l h e k d = subst (λ (m : ℕ). (a + (straightBy w m - bendBy w m) ≡ arcTangent (place w) + (straight w - bend w)) × (a + (straightBy w m - bendBy w m) ≤ 851703465)) (sym d) (ap (λ (n : ℕ). n + (straight w - bend w)) e, omega (arith, close w h .least))
 
--- ---- `sharp`: u is the smaller of x and y, v the larger
-pub sorted : (x y u v : ℕ) → u ≡ cond (ltb x y) x y → v ≡ cond (ltb x y) y x → 0 < x + y → x ≤ 33554432 → y ≤ 33554432 → x + y < 67108864
-    → (u ≤ v) × (0 < v) × (v ≤ 33554432) × (u < 33554432)
-sorted x y u v e d s i j k = go (ltb x y) (ltb→lt x y) (nltb→le x y) e d
-  where
-    go : (b : Bool) → (T b → x < y) → (T (not b) → y ≤ x) → u ≡ cond b x y → v ≡ cond b y x → (u ≤ v) × (0 < v) × (v ≤ 33554432) × (u < 33554432)
-    go true f g p q = let h : x < y = f tt in omega arith
-    go false f g p q = let h : y ≤ x = g tt in omega arith
-
-pub sharp-is : (x y u v t r : ℕ) → u ≡ cond (ltb x y) x y → v ≡ cond (ltb x y) y x → t ≡ slope u v → t ≤ 851703465 → r ≡ cond (ltb x y) (quarter - t) t → (r ≡ sharp x y) × (r ≤ 1686629713)
+-- ---- `sharp`
+pub sharp-is : (steep : Bool) (w t r : ℕ) → t ≡ slope w → t ≤ 851703465 → r ≡ cond steep (quarter - t) t → (r ≡ sharp steep w) × (r ≤ 1686629713)
 unfolding sharp
-sharp-is x y u v t r e d k h l = (l ∙ pick (ltb x y) e d, small (ltb x y) l)
-  where
-    pick : (b : Bool) → u ≡ cond b x y → v ≡ cond b y x → cond b (quarter - t) t ≡ cond b (quarter - slope x y) (slope y x)
-    pick true p q = ap (λ (n : ℕ). quarter - n) (k ∙ ap₂ slope p q)
-    pick false p q = k ∙ ap₂ slope p q
-
-    small : (b : Bool) → r ≡ cond b (quarter - t) t → r ≤ 1686629713
-    small true p = omega arith
-    small false p = omega arith
+sharp-is true w t r e h k = (k ∙ ap (λ (n : ℕ). quarter - n) e, omega arith)
+sharp-is false w t r e h k = (k ∙ e, omega arith)
 
 -- ---- `angle`
 pub wide-le : (left : Bool) (t : ℕ) → t ≤ 1686629713 → cond left (half - t) t ≤ 3373259426
 wide-le true t h = omega arith
 wide-le false t h = omega arith
 
-pub angle-is : (left : Bool) (x y t w : ℕ) → t ≡ sharp x y → t ≤ 1686629713 → w ≡ cond left (half - t) t → ((w + 128) / 256 ≡ angle left x y) × ((w + 128) / 256 ≤ 13176795)
+pub angle-is : (steep left : Bool) (w t n : ℕ) → t ≡ sharp steep w → t ≤ 1686629713 → n ≡ cond left (half - t) t → ((n + 128) / 256 ≡ angle steep left w) × ((n + 128) / 256 ≤ 13176795)
 unfolding angle wide
-angle-is left x y t w e h k = (ap (λ (n : ℕ). (n + 128) / 256) (k ∙ ap (λ (n : ℕ). cond left (half - n) n) e), last (wide-le left t h))
+angle-is steep left w t n e h k = (ap (λ (m : ℕ). (m + 128) / 256) (k ∙ ap (λ (m : ℕ). cond left (half - m) m) e), last (wide-le left t h))
   where
-    last : cond left (half - t) t ≤ 3373259426 → (w + 128) / 256 ≤ 13176795
-    last g = let i : w ≤ 3373259426 = subst (λ (n : ℕ). n ≤ 3373259426) (sym k) g in omega arith
+    last : cond left (half - t) t ≤ 3373259426 → (n + 128) / 256 ≤ 13176795
+    last g = let i : n ≤ 3373259426 = subst (λ (m : ℕ). m ≤ 3373259426) (sym k) g in omega arith
 
 -- ---- `settle`
 pub not-zero : (n r : ℕ) → n < r * r → 0 < r

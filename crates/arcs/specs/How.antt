@@ -1,30 +1,32 @@
--- How ours computes arc cosine and atan2, in whole numbers: nothing of document 01. Arc cosine of what is not permitted, and atan2 of what is not finite, is +0.
-use Prim.Native.Nat.{ℕ, zero, suc, _+_, _-_, _*_, _/_, _^_, max}
-use mathlib.Core.Bool.{Bool, true, false, cond, _&&_}
+-- How ours computes arc cosine and atan2, by one division of f32 and whole numbers: nothing of document 01. Arc cosine of what is not permitted, and atan2 of what is not finite, is +0.
+use Prim.Native.Nat.{ℕ, zero, suc, _+_, _-_, _*_, _/_, _%_, _^_, _≤_, _<_}
+use mathlib.Core.Bool.{Bool, false, cond, _&&_}
 use lib.Dec.{leb, ltb}
-use lib.Ieee.{Float, binary32, size, units}
+use lib.Ieee.{Float, binary32, units}
+use lib.Ieee.Exact.{HasValue}
 use Rattle.numbers.specs.Door.{finite, permits}
 use Rattle.numbers.specs.Limits.{arcCosineArgument}
 use Rattle.numbers.specs.Told.{choose}
-use Rattle.units.specs.Units.{mag}
+use Rattle.units.specs.Units.{mag, rounded, unity}
 use Rattle.arc_rows.specs.ArcTangent.{arcTangent}
 use Rattle.arcs.specs.Wedges.{signBit}
 
--- ---- the angle of (v, u) in units of 2 ^ -30, for u ≤ v: (v, u) is turned back by the angle of (128, k), and what is left is so small that it is its tangent
-abbrev pub place : ℕ → ℕ → ℕ
-place u v = 128 * u / v
+-- ---- the angle of (2 ^ 25, w) in units of 2 ^ -30, for w up to 2 ^ 25: that of (128, k), and two terms of the arc tangent's series there
+abbrev pub place : ℕ → ℕ
+place w = w / 262144
 
-abbrev pub along : ℕ → ℕ → ℕ
-along u v = 128 * v + place u v * u
+-- 2 ^ 45 over 128 ² + k ²
+unfoldable pub lean : ℕ → ℕ
+lean k = 35184372088832 / (16384 + k * k)
 
-abbrev pub across : ℕ → ℕ → ℕ
-across u v = 128 * u - place u v * v
+abbrev pub straight : ℕ → ℕ
+straight w = w % 262144 * lean (place w) / 67108864
 
-abbrev pub rest : ℕ → ℕ → ℕ
-rest u v = 1073741824 * across u v / along u v
+abbrev pub bend : ℕ → ℕ
+bend w = straight w * straight w * place w / 137438953472
 
-unfoldable pub slope : ℕ → ℕ → ℕ
-slope u v = arcTangent (place u v) + rest u v
+unfoldable pub slope : ℕ → ℕ
+slope w = arcTangent (place w) + (straight w - bend w)
 
 -- a quarter and a half turn
 abbrev pub quarter : ℕ
@@ -33,51 +35,65 @@ quarter = 1686629713
 abbrev pub half : ℕ
 half = 3373259426
 
--- the angle of (x, y), and of (-x, y) where left is true
-unfoldable pub sharp : ℕ → ℕ → ℕ
-sharp x y = cond (ltb x y) (quarter - slope x y) (slope y x)
+-- the angle of (2 ^ 25, w), of (w, 2 ^ 25) where steep is true, and with its first side negative where left is true
+unfoldable pub sharp : Bool → ℕ → ℕ
+sharp steep w = cond steep (quarter - slope w) (slope w)
 
-unfoldable pub wide : Bool → ℕ → ℕ → ℕ
-wide left x y = cond left (half - sharp x y) (sharp x y)
+unfoldable pub wide : Bool → Bool → ℕ → ℕ
+wide steep left w = cond left (half - sharp steep w) (sharp steep w)
 
 -- in units of 2 ^ -22
-unfoldable pub angle : Bool → ℕ → ℕ → ℕ
-angle left x y = (wide left x y + 128) / 256
+unfoldable pub angle : Bool → Bool → ℕ → ℕ
+angle steep left w = (wide steep left w + 128) / 256
+
+-- ---- the angle of (x, y), or of (-x, y): the smaller side over the larger as an f32 has it, in units of 2 ^ -25 and cut
+abbrev pub smaller : ℕ → ℕ → ℕ
+smaller x y = cond (ltb x y) x y
+
+abbrev pub larger : ℕ → ℕ → ℕ
+larger x y = cond (ltb x y) y x
+
+unfoldable pub partOf : ℕ → ℕ
+partOf n = n / 2 ^ 124
+
+unfoldable pub ratio : ℕ → ℕ → ℕ
+ratio u v = partOf (rounded u v)
+
+-- u and v are finite and not negative, u is at most v, and v is not zero
+pub record Sorted (u v : Float) : Type 0 where
+  pub first : HasValue u false (mag u) unity
+  pub second : HasValue v false (mag v) unity
+  pub order : mag u ≤ mag v
+  pub some : 0 < mag v
+
+abbrev pub angleOf : Bool → ℕ → ℕ → ℕ
+angleOf left x y = angle (ltb x y) left (ratio (smaller x y) (larger x y))
 
 -- a * 2 ^ -22 as an f32, negative where below is true: 2 ^ -22 is 2 ^ 127 units
 unfoldable pub turned : Bool → ℕ → Float
 turned below a = units binary32 below a 127
 
--- ---- arc cosine: the angle of (q, root of 1 - q²) in units of 2 ^ -25, both cut
+-- ---- arc cosine: the angle of (q, root of 1 - q²) in units of 2 ^ -24, both cut
 -- the whole part of the root of n, for n below 4 ^ d
 unfoldable pub wholeRoot : ℕ → ℕ → ℕ
 wholeRoot zero n = 0
 wholeRoot (suc d) n = let r = 2 * wholeRoot d (n / 4) in cond (leb ((r + 1) * (r + 1)) n) (r + 1) r
 
-unfoldable pub partOf : ℕ → ℕ
-partOf n = n / 2 ^ 124
+abbrev pub across : ℕ → ℕ
+across n = partOf n / 2
 
 abbrev pub side : ℕ → ℕ
-side x = wholeRoot 26 (1125899906842624 - x * x)
+side x = wholeRoot 25 (281474976710656 - x * x)
 
 unfoldable pub insideArcCosine : Float → Float
-insideArcCosine q = turned false (angle (signBit q) (partOf (mag q)) (side (partOf (mag q))))
+insideArcCosine q = turned false (angleOf (signBit q) (across (mag q)) (side (across (mag q))))
 
 unfoldable pub arcCosine : Float → Float
 arcCosine q = choose (permits arcCosineArgument q) (insideArcCosine q) (turned false 0)
 
--- ---- atan2: the angle of (x, y), both in the unit in which the larger is from 2 ^ 24 to 2 ^ 25, and cut
-abbrev pub common : ℕ → ℕ → ℕ
-common a b = size (max a b)
-
-unfoldable pub scaleTo : ℕ → ℕ → ℕ
-scaleTo l a = a * 2 ^ 25 / 2 ^ l
-
-abbrev pub levelAngle : Bool → ℕ → ℕ → ℕ
-levelAngle left x y = angle left (scaleTo (common x y) x) (scaleTo (common x y) y)
-
+-- ---- atan2
 unfoldable pub finiteAtan2 : Float → Float → Float
-finiteAtan2 y x = turned (signBit y) (levelAngle (signBit x) (mag x) (mag y))
+finiteAtan2 y x = turned (signBit y) (angleOf (signBit x) (mag x) (mag y))
 
 unfoldable pub atan2 : Float → Float → Float
 atan2 y x = choose (finite y && finite x) (finiteAtan2 y x) (turned false 0)

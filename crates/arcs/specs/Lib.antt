@@ -1,4 +1,3 @@
 pub mod Wedges
 pub mod Entries
 pub mod How
-pub mod Digits

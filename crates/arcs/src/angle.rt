@@ -1,9 +1,9 @@
-// The angle of a vector of whole numbers of at most 25 digits: the one function behind arc cosine
-// and atan2. No loop, two divisions.
+// The angle of a vector by the ratio of its sides, in whole numbers: the one function behind arc
+// cosine and atan2. No loop, no division.
 use crate::table;
 ghost use mathlib.Core.Path.{_≡_};
 ghost use mathlib.Core.Bool.{cond};
-ghost use Prim.Native.Nat.{_+_, _≤_, _<_};
+ghost use Prim.Native.Nat.{_≤_};
 ghost use Rattle.arcs.specs.How as how;
 
 // The first where the flag stands, else the second.
@@ -13,34 +13,33 @@ pub fn chosen(flag: bool, a: u32, b: u32) -> u32
     if flag { a } else { b }
 }
 
-// The angle of (v, u) for u up to v, in units of 2^-30. The vector is turned back by the angle of
-// (128, k), which the table has; what is left is so small that it is its tangent.
-fn slope(u: u32, v: u32) -> u32
-    requires { ⌜ (u ≤ v) × (0 < v) × (v ≤ 33554432) × (u < 33554432) ⌝ }
-    ensures { λ r. ⌜ (r ≡ how.slope u v) × (r ≤ 851703465) ⌝ }
+// The angle of (2^25, w), in units of 2^-30: the table's angle of (128, k), and two terms of the arc
+// tangent's series there.
+fn slope(w: u32) -> u32
+    requires { ⌜ w ≤ 33554432 ⌝ }
+    ensures { λ r. ⌜ (r ≡ how.slope w) × (r ≤ 851703465) ⌝ }
 {
-    let k = 128 * u / v;
-    let y = 128 * u - k * v;
-    let x = 128 * v as u64 + k as u64 * u as u64;
-    let z = 0x4000_0000 * y as u64 / x;
-    table::entry(k) + z as u32
+    let k = w / 0x4_0000;
+    let row = table::entry(k);
+    let s = (w % 0x4_0000) as u64 * row.1 as u64 / 0x400_0000;
+    let b = s * s * k as u64 / 0x20_0000_0000;
+    row.0 + (s - b) as u32
 }
 
-// The angle of (x, y): at most a quarter turn, in units of 2^-30.
-fn sharp(x: u32, y: u32) -> u32
-    requires { ⌜ (0 < x + y) × (x ≤ 33554432) × (y ≤ 33554432) × (x + y < 67108864) ⌝ }
-    ensures { λ r. ⌜ (r ≡ how.sharp x y) × (r ≤ 1686629713) ⌝ }
+// The angle of (2^25, w), or of (w, 2^25) where steep: at most a quarter turn, in units of 2^-30.
+fn sharp(steep: bool, w: u32) -> u32
+    requires { ⌜ w ≤ 33554432 ⌝ }
+    ensures { λ r. ⌜ (r ≡ how.sharp steep w) × (r ≤ 1686629713) ⌝ }
 {
-    let steep = x < y;
-    let t = slope(chosen(steep, x, y), chosen(steep, y, x));
+    let t = slope(w);
     chosen(steep, 1686629713 - t, t)
 }
 
-// The angle of (x, y), or of (-x, y), in units of 2^-22.
-pub fn angle(left: bool, x: u32, y: u32) -> u32
-    requires { ⌜ (0 < x + y) × (x ≤ 33554432) × (y ≤ 33554432) × (x + y < 67108864) ⌝ }
-    ensures { λ r. ⌜ (r ≡ how.angle left x y) × (r ≤ 13176795) ⌝ }
+// That, or its mirror image where left, in units of 2^-22.
+pub fn angle(steep: bool, left: bool, w: u32) -> u32
+    requires { ⌜ w ≤ 33554432 ⌝ }
+    ensures { λ r. ⌜ (r ≡ how.angle steep left w) × (r ≤ 13176795) ⌝ }
 {
-    let t = sharp(x, y);
+    let t = sharp(steep, w);
     (chosen(left, 3373259426 - t, t) + 128) / 256
 }

@@ -37,15 +37,20 @@ pub fn atan2(y: f32, x: f32) -> f32
     }
 }
 
-// The angle of (q, root of 1 - q²), both in units of 2^-25 and cut.
+// The angle of (q, root of 1 - q²), both in units of 2^-24 and cut: so an f32 holds them.
 fn inside_arc_cosine(q: f32) -> f32
     requires { ⌜ T (permits arcCosineArgument q) ⌝ }
     ensures { λ r. ⌜ r ≡ insideArcCosine q ⌝ }
 {
     let b = f32::to_bits(q);
-    let x = digits::part(b % 0x8000_0000);
-    let y = whole_root::whole_root(0x4_0000_0000_0000 - x as u64 * x as u64);
-    digits::scaled(false, angle::angle(0x8000_0000 <= b, x, y as u32))
+    let x = digits::part(b % 0x8000_0000) / 2;
+    let y = whole_root::whole_root(0x1_0000_0000_0000 - x as u64 * x as u64) as u32;
+    let steep = x < y;
+    let w = digits::ratio(
+        angle::chosen(steep, x, y) as f32,
+        angle::chosen(steep, y, x) as f32,
+    );
+    digits::scaled(false, angle::angle(steep, 0x8000_0000 <= b, w))
 }
 
 // Of two zeros it is y's zero, or P with y's sign where x is -0. P is 13176795 units of 2^-22.
@@ -62,6 +67,10 @@ fn finite_atan2(y: f32, x: f32) -> f32
     if i + j == 0 {
         return digits::scaled(below, angle::chosen(left, 13176795, 0));
     }
-    let v = digits::level(i, j);
-    digits::scaled(below, angle::angle(left, v.x, v.y))
+    let steep = i < j;
+    let w = digits::ratio(
+        f32::from_bits(angle::chosen(steep, i, j)),
+        f32::from_bits(angle::chosen(steep, j, i)),
+    );
+    digits::scaled(below, angle::angle(steep, left, w))
 }

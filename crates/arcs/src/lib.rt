@@ -1,5 +1,5 @@
-// Arc cosine and atan2 of f32, by whole numbers of at most 64 bits: the angle of a vector of whole
-// numbers, from a table of 129 angles and one division for the rest.
+// Arc cosine and atan2 of f32: one division of f32 for the ratio of a vector's sides, then whole
+// numbers of at most 64 bits, a table of 129 angles and two terms of a series for the rest.
 use numbers::Answer;
 use numbers::door;
 use numbers::limits;

@@ -145,8 +145,8 @@ fn guess(n: u64) -> u64
 
 // The whole part of the root of n, from any guess.
 fn settle(n: u64, guess: u64) -> u64
-    requires { ⌜ (n ≤ 1125899906842624) × (guess ≤ 1073741824) ⌝ }
-    ensures { λ r. ⌜ (r ≡ wholeRoot 26 n) × (r ≤ 33554432) ⌝ }
+    requires { ⌜ (n ≤ 281474976710656) × (guess ≤ 1073741824) ⌝ }
+    ensures { λ r. ⌜ (r ≡ wholeRoot 25 n) × (r ≤ 16777216) ⌝ }
 {
     let mut r = guess;
     while n < r * r {
@@ -158,10 +158,10 @@ fn settle(n: u64, guess: u64) -> u64
     r
 }
 
-// The whole part of the root of n, for n up to 2^50. A good guess is taken as it is.
+// The whole part of the root of n, for n up to 2^48. A good guess is taken as it is.
 pub fn whole_root(n: u64) -> u64
-    requires { ⌜ n ≤ 1125899906842624 ⌝ }
-    ensures { λ r. ⌜ (r ≡ wholeRoot 26 n) × (r ≤ 33554432) ⌝ }
+    requires { ⌜ n ≤ 281474976710656 ⌝ }
+    ensures { λ r. ⌜ (r ≡ wholeRoot 25 n) × (r ≤ 16777216) ⌝ }
 {
     let r = guess(n);
     let q = r * r;

@@ -117,3 +117,16 @@ div-part f (fin true m e) (fin true (suc k) d) true p n q a b Q h g =
     subst (λ (z : Float). Part f z (grid f n q) (grid f p q)) (sym (div-is f true m e true k d))
     (sized-plus f (m * up e * down d) (suc k * up d * down e) n q p (bottom-pos k d e) Q
     (div-cross (m * up e) (one f) n (down e) (suc k * up d) q (down d) (pow-pos (low f)) (a .0) (b .1)) (a .1) h)
+
+-- of two that are not negative
+pub div-value : (f : Format) (x y : Float) (p q : ℕ) → HasValue x false p (one f) → HasValue y false q (one f) → 0 < q → grid f p q < overflow f → HasValue (div f x y) false (grid f p q) (one f)
+div-value f nan y p q a b Q h = absurd a
+div-value f (inf s) y p q a b Q h = absurd a
+div-value f (fin s m e) nan p q a b Q h = absurd b
+div-value f (fin s m e) (inf i) p q a b Q h = absurd b
+div-value f (fin true m e) (fin t k d) p q a b Q h = absurd (true≢false (a .0))
+div-value f (fin false m e) (fin true k d) p q a b Q h = absurd (true≢false (b .0))
+div-value f (fin false m e) (fin false zero d) p q a b Q h = absurd (not-zero f d q Q (b .1))
+div-value f (fin false m e) (fin false (suc k) d) p q a b Q h =
+    subst (λ (z : Float). HasValue z false (grid f p q) (one f)) (sym (div-is f false m e false k d))
+    (round-at f (m * up e * down d) (suc k * up d * down e) p q (bottom-pos k d e) Q (div-cross (m * up e) (one f) p (down e) (suc k * up d) q (down d) (pow-pos (low f)) (a .1) (b .1)) h)

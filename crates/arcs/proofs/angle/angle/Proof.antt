@@ -20,7 +20,7 @@ add-result : tie.Need-add-result
 add-result c = let h = subst (λ (n : ℕ). n ≤ 3373259426) (sym (c .chosen .ensures)) (wide-le (c .before .before .args .left) (c .before .sharp .result) (c .before .sharp .ensures .1)) in omega arith
 
 returns : tie.Need-returns
-returns c = angle-is (c .before .before .args .left) (c .before .before .args .x) (c .before .before .args .y) (c .before .sharp .result) (c .chosen .result) (c .before .sharp .ensures .0) (c .before .sharp .ensures .1) (c .chosen .ensures)
+returns c = angle-is (c .before .before .args .steep) (c .before .before .args .left) (c .before .before .args .w) (c .before .sharp .result) (c .chosen .result) (c .before .sharp .ensures .0) (c .before .sharp .ensures .1) (c .chosen .ensures)
 
 pub angle-spec : {M : Type 1} → statement M
 angle-spec = tie.close (tie.spec sharp-requires sub-chosen chosen-requires add-result returns)

@@ -1,85 +1,62 @@
--- `arcs::angle::slope` meets its contract: k is at most 128 and the rest at most 2 ^ 23, so nothing overflows.
+-- `arcs::angle::slope` meets its contract: the first term is at most 2 ^ 23 and the second at most that, so nothing overflows.
 use native.Mathlib.Omega.{arith}
-use Prim.Native.Nat.{ℕ, _+_, _≤_}
-use native.Mathlib.Nat.{lt-of-le-of-lt}
-use lib.Dec.{lit<}
-use Rattle.arcs.specs.How.{rest}
-use Rattle.arcs.proofs.Ranges.{Fit, fit, slope-is}
+use Rattle.arcs.proofs.Ranges.{Steps, steps, slope-is}
 use borrow.Author.Needs.{needs}
 use Rattle.arcs.proofs.angle.slope.Statement.{statement}
 use Rattle.arcs.proofs.angle.slope.Tie as tie
 
-top : (a z : ℕ) → a ≤ 843314857 → z ≤ 8388608 → a + z ≤ 851703465
-top a z h k = omega arith
-
-fitted : (c : tie.Start) → Fit (c .args .u) (c .args .v)
-fitted c = fit (c .args .u) (c .args .v) (c .pre .0) (c .pre .1) (c .pre .2)
-
-mul-k : tie.Need-mul-k
-mul-k c = search needs
-
-div-k : tie.Need-div-k
-div-k c = search needs
-
-mul-y : tie.Need-mul-y
-mul-y c = search needs
-
-mul-y-2 : tie.Need-mul-y-2
-mul-y-2 c = omega (arith, fitted c)
-
-sub-y : tie.Need-sub-y
-sub-y c = omega (arith, fitted c)
-
-mul-x : tie.Need-mul-x
-mul-x c = search needs
-
-cast-x : tie.Need-cast-x
-cast-x c = omega (arith, fitted c)
-
-mul-x-2 : tie.Need-mul-x-2
-mul-x-2 c = omega (arith, fitted c)
-
-add-x : tie.Need-add-x
-add-x c = omega (arith, fitted c)
-
-cast-z : tie.Need-cast-z
-cast-z c = search needs
-
-mul-z : tie.Need-mul-z
-mul-z c = search needs
-
-div-z : tie.Need-div-z
-div-z c = search needs
+stepped : (c : tie.After-entry) → Steps (c .before .args .w) (c .entry .result .1)
+stepped c = steps (c .before .args .w) (c .entry .result .1) (c .before .pre) (c .entry .ensures .3)
 
 entry-requires : tie.Need-entry-requires
-entry-requires c κs = fitted c .k-lt
+entry-requires c κs = search needs
+
+cast-s : tie.Need-cast-s
+cast-s c = search needs
+
+cast-s-2 : tie.Need-cast-s-2
+cast-s-2 c = search needs
+
+mul-s : tie.Need-mul-s
+mul-s c = omega (arith, stepped (c .before))
+
+mul-b : tie.Need-mul-b
+mul-b c = omega (arith, stepped (c .before))
+
+cast-b : tie.Need-cast-b
+cast-b c = search needs
+
+mul-b-2 : tie.Need-mul-b-2
+mul-b-2 c = omega (arith, stepped (c .before))
+
+sub-result : tie.Need-sub-result
+sub-result c = stepped (c .before) .bend-le
 
 cast-result : tie.Need-cast-result
-cast-result c = record { fits = lt-of-le-of-lt (fitted (c .before) .z-le) (lit< tt) }
+cast-result c = omega (arith, stepped (c .before))
 
 add-result : tie.Need-add-result
-add-result c = record { fits = lt-of-le-of-lt (top (c .entry .result) (rest (c .before .args .u) (c .before .args .v)) (c .entry .ensures .1) (fitted (c .before) .z-le)) (lit< tt) }
+add-result c =
+    let e = c .before .before in
+    omega (arith, slope-is (e .before .args .w) (e .entry .result .0) (e .entry .result .1) (e .before .pre) (e .entry .ensures .0) (e .entry .ensures .1) (e .entry .ensures .2) .1)
 
 returns : tie.Need-returns
-returns c = (slope-is (c .before .args .u) (c .before .args .v) (c .entry .result) (c .entry .ensures .0), top (c .entry .result) (rest (c .before .args .u) (c .before .args .v)) (c .entry .ensures .1) (fitted (c .before) .z-le))
+returns c =
+    let e = c .before .before in
+    slope-is (e .before .args .w) (e .entry .result .0) (e .entry .result .1) (e .before .pre) (e .entry .ensures .0) (e .entry .ensures .1) (e .entry .ensures .2)
 
 pub slope-spec : {M : Type 1} → statement M
 slope-spec =
     tie.close
     (tie.spec
-    mul-k
-    div-k
-    mul-y
-    mul-y-2
-    sub-y
-    mul-x
-    cast-x
-    mul-x-2
-    add-x
-    cast-z
-    mul-z
-    div-z
     entry-requires
+    cast-s
+    cast-s-2
+    mul-s
+    mul-b
+    cast-b
+    mul-b-2
+    sub-result
     cast-result
     add-result
     returns)

@@ -3,12 +3,12 @@ use mathlib.Core.Path.{sym, subst}
 use lib.Dec.{T}
 use lib.Ieee.{binary32, fits, toBits}
 use native.Mathlib.Omega.{arith}
-use mathlib.Core.Path.{_≡_}
-use Prim.Native.Nat.{ℕ, _≤_}
+use Prim.Native.Nat.{ℕ, _≤_, _<_}
 use lib.Ieee.Fits.{and-l, and-r}
 use Rattle.numbers.specs.Door.{finite}
-use Rattle.arcs.proofs.Patterns.{sign, no-nan, pattern-lt}
-use Rattle.arcs.proofs.Answers.{atan2-is, atan2-zero, zeros-le}
+use Rattle.units.proofs.Above.{pattern-no-nan}
+use Rattle.arcs.proofs.Patterns.{sign, bare, no-nan, pattern-lt}
+use Rattle.arcs.proofs.Answers.{atan2-is, atan2-zero, zeros-le, patterns-lt, patterns-sorted}
 use borrow.Author.Needs.{needs}
 use Rattle.arcs.proofs.core.finite_atan2.Statement.{statement}
 use Rattle.arcs.proofs.core.finite_atan2.Tie as tie
@@ -25,6 +25,12 @@ finite-y c = and-l (finite (c .args .y)) (finite (c .args .x)) (c .pre)
 
 finite-x : (c : tie.Start) → T (finite (c .args .x))
 finite-x c = and-r (finite (c .args .y)) (finite (c .args .x)) (c .pre)
+
+under-x : (c : tie.Start) → bare (toBits binary32 (c .args .x)) < 2139095040
+under-x c = pattern-lt (c .args .x) (held-x c) (finite-x c)
+
+under-y : (c : tie.Start) → bare (toBits binary32 (c .args .y)) < 2139095040
+under-y c = pattern-lt (c .args .y) (held-y c) (finite-y c)
 
 float-to-bits-a : tie.Need-float-to-bits-a
 float-to-bits-a c = no-nan (c .args .x) (finite-x c)
@@ -46,8 +52,29 @@ returns c =
     let s = c .before .before .before in
     atan2-zero (s .args .y) (s .args .x) (held-y s) (held-x s) (s .pre) (c .before .chosen .result) (c .scaled .result) (c .before .before .if1 .taken) (c .before .chosen .ensures) (c .scaled .ensures)
 
-level-requires : tie.Need-level-requires
-level-requires c κs = (pattern-lt (c .before .args .x) (held-x (c .before)) (finite-x (c .before)), pattern-lt (c .before .args .y) (held-y (c .before)) (finite-y (c .before)), omega arith)
+chosen-requires-2 : tie.Need-chosen-requires-2
+chosen-requires-2 c κs = search needs
+
+-- the smaller and the larger pattern
+small-lt : (c : tie.After-chosen2) → c .chosen2 .result < 2139095040
+small-lt c = let s = c .before .before in subst (λ (n : ℕ). n < 2139095040) (sym (c .chosen2 .ensures)) (patterns-lt (bare (toBits binary32 (s .args .x))) (bare (toBits binary32 (s .args .y))) (under-x s) (under-y s) .0)
+
+large-lt : (c : tie.After-chosen3) → c .chosen3 .result < 2139095040
+large-lt c = let s = c .before .before .before in subst (λ (n : ℕ). n < 2139095040) (sym (c .chosen3 .ensures)) (patterns-lt (bare (toBits binary32 (s .args .x))) (bare (toBits binary32 (s .args .y))) (under-x s) (under-y s) .1)
+
+float-from-bits-ratio : tie.Need-float-from-bits-ratio
+float-from-bits-ratio c = pattern-no-nan (c .chosen2 .result) (small-lt c)
+
+chosen-requires-3 : tie.Need-chosen-requires-3
+chosen-requires-3 c κs = search needs
+
+float-from-bits-ratio-2 : tie.Need-float-from-bits-ratio-2
+float-from-bits-ratio-2 c = pattern-no-nan (c .chosen3 .result) (large-lt c)
+
+ratio-requires : tie.Need-ratio-requires
+ratio-requires c κs =
+    let s = c .before .before .before in
+    patterns-sorted (bare (toBits binary32 (s .args .x))) (bare (toBits binary32 (s .args .y))) (c .before .chosen2 .result) (c .chosen3 .result) (under-x s) (under-y s) (omega (arith, c .before .before .if1 .left)) (c .before .chosen2 .ensures) (c .chosen3 .ensures)
 
 angle-requires : tie.Need-angle-requires
 angle-requires c κs = search needs
@@ -57,9 +84,10 @@ scaled-requires-2 c κs = search needs
 
 returns-2 : tie.Need-returns-2
 returns-2 c =
-    let s = c .before .before .before .before in
-    atan2-is (s .args .y) (s .args .x) (held-y s) (held-x s) (s .pre) (c .before .before .level .result .x) (c .before .before .level .result .y) (c .before .angle .result) (c .scaled2 .result)
-    (c .before .before .level .ensures) (c .before .angle .ensures .0) (c .scaled2 .ensures)
+    let d = c .before .before .before in
+    let s = d .before .before .before in
+    atan2-is (s .args .y) (s .args .x) (held-y s) (held-x s) (s .pre) (d .before .chosen2 .result) (d .chosen3 .result) (c .before .before .ratio .result) (c .before .angle .result) (c .scaled2 .result)
+    (d .before .chosen2 .ensures) (d .chosen3 .ensures) (small-lt (d .before)) (large-lt d) (c .before .before .ratio .ensures .0) (c .before .angle .ensures .0) (c .scaled2 .ensures)
 
 pub finite-atan2-spec : {M : Type 1} → statement M
 finite-atan2-spec =
@@ -71,7 +99,11 @@ finite-atan2-spec =
     chosen-requires
     scaled-requires
     returns
-    level-requires
+    chosen-requires-2
+    float-from-bits-ratio
+    chosen-requires-3
+    float-from-bits-ratio-2
+    ratio-requires
     angle-requires
     scaled-requires-2
     returns-2)

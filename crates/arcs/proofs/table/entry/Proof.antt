@@ -1,4 +1,4 @@
--- `arcs::table::entry` meets its contract: antt computes `arcTangent k` at each arm, and what is none of the first 128 is 128.
+-- `arcs::table::entry` meets its contract: antt computes `arcTangent k` and `lean k` at each arm, and what is none of the first 128 is 128.
 use Rattle.arcs.proofs.Tabled.{angled, held, held-last}
 use Rattle.arcs.proofs.table.entry.Statement.{statement}
 use Rattle.arcs.proofs.table.entry.Tie as tie

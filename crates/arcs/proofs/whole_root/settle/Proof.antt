@@ -1,5 +1,5 @@
 -- `arcs::whole_root::settle` meets its contract: the first loop ends with r * r ≤ n, which the second keeps; the exits alone give the result.
-use Prim.Native.Nat.{ℕ, _+_, _-_, _*_, _≤_, _<_}
+use Prim.Native.Nat.{_+_, _-_, _*_, _≤_}
 use native.Mathlib.Omega.{arith}
 use Rattle.arcs.proofs.WholeRoots.{sq-small, side-le, next-le, root-is}
 use Rattle.arcs.proofs.Ranges.{not-zero}
@@ -13,10 +13,10 @@ abbrev μ-loop : tie.MeasureT-loop
 μ-loop n guess r₀ r = r
 
 abbrev Inv-loop2 : tie.InvT-loop2
-Inv-loop2 n guess r₀ r = (r ≤ 33554432) × (r * r ≤ n)
+Inv-loop2 n guess r₀ r = (r ≤ 16777216) × (r * r ≤ n)
 
 abbrev μ-loop2 : tie.MeasureT-loop2
-μ-loop2 n guess r₀ r = 33554432 - r
+μ-loop2 n guess r₀ r = 16777216 - r
 
 loop-holds : tie.Need-loop-holds Inv-loop μ-loop Inv-loop2 μ-loop2
 loop-holds c = omega arith
