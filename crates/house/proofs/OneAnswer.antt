@@ -188,7 +188,7 @@ settled-numbers-core-max i = one-value
 
 -- ---- roots
 pub settled-roots-square-root : Settled (roots-square-root.Post tt)
-settled-roots-square-root i = one-answer numbers.told numbers-one.told-loses-nothing
+settled-roots-square-root i a b p q = one-answer numbers.told numbers-one.told-loses-nothing a b (p .0) (q .0)
 
 pub settled-roots-core-square-root : Settled (roots-core-square-root.Post tt)
 settled-roots-core-square-root i = one-value

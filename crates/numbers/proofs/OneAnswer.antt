@@ -2,6 +2,7 @@
 use mathlib.Core.Path.{_≡_, refl, sym, ap, _∙_}
 use mathlib.Core.List.{List, [], _∷_}
 use Prim.Native.Nat.{ℕ}
+use native.Mathlib.Omega.{arith}
 use lib.Ieee.{Float}
 use Rattle.numbers.specs.Told.{Told}
 use Rattle.numbers.specs.Answers.{told}
@@ -18,3 +19,10 @@ told-loses-nothing (Value x) (Value y) e = let v : x ∷ [] ≡ y ∷ [] = ap (�
 told-loses-nothing (Value x) (Refused n) e = let v : x ∷ [] ≡ [] = ap (λ (t : Told). t .values) e in cc
 told-loses-nothing (Refused n) (Value y) e = let v : [] ≡ y ∷ [] = ap (λ (t : Told). t .values) e in cc
 told-loses-nothing (Refused n) (Refused m) e = ap Refused (ap (λ (t : Told). t .number) e)
+
+-- the two cases of an answer differ, and a value is one number
+pub never-both : (n : ℕ) (a : Float) → Refused n ≡ Value a → ⊥
+never-both n a e = let z : _≡_ {A = ℕ} 0 1 = cc in omega arith
+
+pub one-number : (x a : Float) → Value x ≡ Value a → x ≡ a
+one-number x a e = cc

@@ -24,7 +24,7 @@ use Rattle.units.proofs.Above.{pattern, mag-val, mag-pos, mag-value}
 use Rattle.units.proofs.Door.{finite-is, permitted-mag, permitted-above}
 use Rattle.units.proofs.Table.{root-argument-ends}
 use Rattle.roots.specs.How.{sq}
-use Rattle.roots.specs.Root.{squareRoot, Closest}
+use Rattle.roots.specs.Root.{squareRoot, Closest, RootOf}
 use Rattle.roots.proofs.Squares.{sq-le}
 use Rattle.roots.proofs.Nearest.{nearest-root, nearest-mono, q-low, q-high, square-high, square-low}
 use Rattle.roots.proofs.Exists.{Found, root-exists}
@@ -66,6 +66,18 @@ module _ (x : Float) (F : T (fits binary32 x)) (P : T (positive x)) where
 
   pub root-positive : T (positive (squareRoot x))
   root-positive = positive-of-value (squareRoot x) (found .0 * 2 ^ found .1) unity root-val root-pos
+
+-- the contract's second clause
+pub root-of : (x : Float) → T (fits binary32 x) → RootOf x (squareRoot x)
+unfolding squareRoot
+root-of x F = record {
+  closest = λ (P : T (positive x)). root-closest x F P;
+  of-zero = λ (s : Bool) (e : x ≡ fin s 0 (pos 0)). ap squareRoot e ∙ of-zero s ∙ sym e;
+}
+  where
+    of-zero : (s : Bool) → squareRoot (fin s 0 (pos 0)) ≡ fin s 0 (pos 0)
+    of-zero true = refl
+    of-zero false = refl
 
 not-lt : {a b : ℕ} → (b < a → ⊥) → a ≤ b
 not-lt {a} {b} k = omega arith

@@ -2,10 +2,13 @@
 -- Every f32 is a whole number of units of 2 ^ -149, `mag`. Where x is n units, its root is the square root of n * 2 ^ 149, in units.
 use mathlib.Core.List.{[], _∷_}
 use Prim.Native.Nat.{ℕ, zero, suc, _+_, _*_, _<_}
-use mathlib.Core.Bool.{true, false}
+use mathlib.Core.Path.{_≡_}
+use mathlib.Core.Bool.{Bool, true, false}
+use lib.IntN.{pos}
 use lib.Dec.{T}
 use lib.Ieee.{Float, nan, inf, fin, binary32, fits}
 use lib.Ieee.Exact.{HasValue}
+use lib.Ieee.Positive.{positive}
 use Rattle.numbers.specs.Told.{Told, given, answer}
 use Rattle.numbers.specs.Door.{finite, permits, unless, firstOf}
 use Rattle.numbers.specs.Limits.{rootArgument}
@@ -19,6 +22,11 @@ pub record Closest (x y : Float) : Type 0 where
   pub value : HasValue y false (mag y) unity
   pub below : (z : Float) → T (fits binary32 z) → mag z < mag y → sq (mag z + mag y) < 4 * (mag x * unity)
   pub above : (z : Float) → T (fits binary32 z) → mag y < mag z → 4 * (mag x * unity) < sq (mag y + mag z)
+
+-- r is the root of x: of a number above zero the closest f32, of a zero that zero
+pub record RootOf (x r : Float) : Type 0 where
+  pub closest : T (positive x) → Closest x r
+  pub of-zero : (s : Bool) → x ≡ fin s 0 (pos 0) → r ≡ x
 
 -- the root of x above zero is the one f32 that is `Closest`; of a zero it is that zero; and what is negative, infinite or NaN comes back as it is
 unfoldable pub squareRoot : Float → Float

@@ -3,8 +3,10 @@ use numbers::Answer;
 use numbers::door;
 use numbers::limits;
 ghost use mathlib.Core.Path.{_≡_};
+ghost use lib.Ieee.{Float};
 ghost use Rattle.numbers.specs.Answers.{told};
-ghost use Rattle.roots.specs.Root.{squareRootTold};
+ghost use Rattle.numbers.specs.declared.Answer.the-variants.{Value};
+ghost use Rattle.roots.specs.Root.{squareRootTold, RootOf};
 
 pub mod core;
 mod digits;
@@ -12,7 +14,8 @@ mod seed;
 
 // The f32 nearest to the root of x; of a zero that zero.
 pub fn square_root(x: f32) -> Answer
-    ensures { λ r. ⌜ told r ≡ squareRootTold x ⌝ }
+    ensures exact { λ r. ⌜ told r ≡ squareRootTold x ⌝ }
+    ensures closest { λ r. ⌜ ((y : Float) → r ≡ Value y → RootOf x y) ⌝ }
 {
     let n = door::refused(limits::root_argument(), x);
     if n == 0 {

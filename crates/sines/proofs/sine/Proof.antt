@@ -2,8 +2,6 @@
 use borrow.Author.Needs.{needs}
 use borrow.Author.Tests.{eq-eqb, ne-eqb}
 use mathlib.Core.Path.{_≡_, refl, sym, ap, _∙_, subst}
-use Prim.Native.Nat.{ℕ}
-use native.Mathlib.Omega.{arith}
 use lib.Dec.{T}
 use lib.Ieee.{Float, binary32, fits}
 use mathlib.Core.List.{[], _∷_}
@@ -11,6 +9,7 @@ use Rattle.numbers.specs.Door.{finite, permits, FiniteEnds, unless, firstOf}
 use Rattle.numbers.specs.declared.door.Limit.{Limit}
 use Rattle.numbers.specs.Limits.{sineArgument}
 use Rattle.numbers.specs.declared.Answer.the-variants.{Value, Refused}
+use Rattle.numbers.proofs.OneAnswer.{never-both, one-number}
 use Rattle.sines.specs.Bands.{SineOf}
 use Rattle.sines.specs.Entries.{refusal}
 use Rattle.sines.specs.How.{sine}
@@ -23,12 +22,6 @@ use Rattle.sines.proofs.sine.Tie as tie
 -- what owning an `f32` tells: the format holds it
 held : (c : tie.Start) → T (fits binary32 (c .args .x))
 held c = subst T (sym (c .good .0 .1)) tt
-
-same-value : (x y : Float) → Value x ≡ Value y → x ≡ y
-same-value x y h = cc
-
-never : (n : ℕ) (y : Float) → Refused n ≡ Value y → _≡_ {A = ℕ} 0 1
-never n y h = cc
 
 sine-argument-requires : tie.Need-sine-argument-requires
 sine-argument-requires c κs = search needs
@@ -51,13 +44,13 @@ returns c =
     let p = inside-sine-requires (c .before) tt in
     let e : c .inside-sine .result ≡ sine x = c .inside-sine .ensures ∙ sine-is x (held s) p in (
       simp (e, ← number (c .before .before), eq-eqb _ 0 (c .before .if1 .taken)),
-      λ (y : Float) (v : Value (c .inside-sine .result) ≡ Value y). subst (λ (r : Float). SineOf x r) (sym e ∙ same-value (c .inside-sine .result) y v) (sine-band x (held s) p),
+      λ (y : Float) (v : Value (c .inside-sine .result) ≡ Value y). subst (λ (r : Float). SineOf x r) (sym e ∙ one-number (c .inside-sine .result) y v) (sine-band x (held s) p),
     )
 
 returns-2 : tie.Need-returns-2
 returns-2 c = (
   simp (← number (c .before), ne-eqb _ 0 (c .if1 .left)),
-  λ (y : Float) (e : Refused (c .before .refused .result) ≡ Value y). absurd (let z : _≡_ {A = ℕ} 0 1 = never (c .before .refused .result) y e in omega arith),
+  λ (y : Float) (e : Refused (c .before .refused .result) ≡ Value y). absurd (never-both (c .before .refused .result) y e),
 )
 
 pub sine-spec : {M : Type 1} → statement M
