@@ -1,6 +1,7 @@
 // Times the proved library and the plain Rust reading side by side: same inputs, same run, one thread.
 // Both sides have the same shape at the boundary: a call that is not inlined, numbers and rows of floats in, a stored
-// answer out, every number looked at. A line an operation: nanoseconds of ours, of Rust's, the ratio, the goal.
+// answer out, every number looked at. A line an operation: nanoseconds of ours, of Rust's, the ratio, the goal. The first word
+// is the number of rounds, the second, for a profile, the one operation to run.
 mod reference;
 use reference::*;
 use std::hint::black_box;
@@ -203,6 +204,9 @@ const INPUTS: usize = 1024;
 /// The best of several rounds over all inputs, ours and theirs by turns, in nanoseconds a call.
 fn both(name: &str, goal: f64, each: f64, mut ours: impl FnMut(usize), mut theirs: impl FnMut(usize)) {
     let rounds = std::env::args().nth(1).and_then(|s| s.parse().ok()).unwrap_or(60);
+    if std::env::args().nth(2).is_some_and(|only| only != name) {
+        return;
+    }
     let (mut a, mut b) = (f64::MAX, f64::MAX);
     for _ in 0..rounds {
         let t = Instant::now();
