@@ -1,16 +1,16 @@
 -- The results: a whole number of 2 ^ -22 as an f32, what it is in units, and that the code's product makes it. Assumes nothing.
 use mathlib.Core.Path.{_≡_, refl, sym, ap, _∙_, subst}
-use Prim.Native.Nat.{ℕ, _+_, _-_, _*_, _/_, _^_, _≤_, _<_}
+use Prim.Native.Nat.{ℕ, _*_, _^_, _≤_, _<_}
 use native.Mathlib.Nat.{lt-of-lt-of-le, le-of-lt, mul-comm, mul-assoc, mul-left-comm, mul-pos, mul-right-comm, eq-of-mul-eq-mul-right}
 use native.Mathlib.Omega.{arith}
-use mathlib.Core.Bool.{Bool, true, false, not, cond, true≢false}
+use mathlib.Core.Bool.{Bool, true, false, cond, true≢false}
 use lib.IntN.{pos, negsuc}
 use lib.Dec.{T, ltb, ltb→lt, lit<, lit≤}
 use lib.Pow.{shl-lt}
-use lib.Ieee.{Float, nan, inf, fin, binary32, up, down, odd, units, round, ofBits, fits, mul, neg, ofInt}
+use lib.Ieee.{Float, nan, inf, fin, binary32, up, down, unlike, odd, units, round, ofBits, fits, mul, neg, ofInt}
 use lib.Ieee.Exact.{HasValue, units-val, round-exact}
 use lib.Ieee.Back.{round-whole}
-use lib.Ieee.Fits.{odd-fits, down-pos, mul-fits, neg-fits}
+use lib.Ieee.Fits.{odd-fits, down-pos, mul-fits}
 use Rattle.units.proofs.Patterns.{one-value}
 use Rattle.arcs.specs.How.{turned}
 
@@ -39,58 +39,46 @@ again (fin t m e) s num den y c p h v = (
       (mul-right-comm (m * up e) c den ∙ ap (λ (z : ℕ). z * c) (v .1) ∙ mul-right-comm num (down e) c ∙ ap (λ (z : ℕ). z * down e) h ∙ mul-right-comm y den (down e)),
 )
 
-times-tiny : (v : Float) (y : ℕ) → y < 16777216 → HasValue v false y 1 → HasValue (mul binary32 v (fin false 1 (negsuc 21))) false (y * 2 ^ 127) (2 ^ 149)
+-- by ±2 ^ -22
+times-tiny : (s : Bool) (v : Float) (y : ℕ) → y < 16777216 → HasValue v false y 1 → HasValue (mul binary32 v (fin s 1 (negsuc 21))) s (y * 2 ^ 127) (2 ^ 149)
 unfolding mul
-times-tiny nan y l h = absurd h
-times-tiny (inf t) y l h = absurd h
-times-tiny (fin true m e) y l h = absurd (true≢false (h .0))
-times-tiny (fin false m e) y l h =
+times-tiny s nan y l h = absurd h
+times-tiny s (inf t) y l h = absurd h
+times-tiny s (fin true m e) y l h = absurd (true≢false (h .0))
+times-tiny s (fin false m e) y l h =
     let num = m * up e * 1 in
     let den = down e * 4194304 in
     let dp : 0 < den = mul-pos (down-pos e) (lit< tt) in
     let en : num ≡ y * down e = h .1 in
     let ex : num * 2 ^ 149 ≡ y * 2 ^ 127 * den = ap (λ (z : ℕ). z * 2 ^ 149) en ∙ move y (down e) 4194304 (2 ^ 127) in
-    again (round binary32 false num den) false num den (y * 2 ^ 127) (2 ^ 149) dp ex (round-exact binary32 false num den y 127 dp l (under-all y l) ex)
+    again (round binary32 (unlike false s) num den) s num den (y * 2 ^ 127) (2 ^ 149) dp ex (subst (λ (t : Bool). HasValue (round binary32 t num den) s num den) (sym (kept s)) (round-exact binary32 s num den y 127 dp l (under-all y l) ex))
   where
     move : (y d c k : ℕ) → y * d * (c * k) ≡ y * k * (d * c)
     move y d c k = simp (mul-assoc, mul-comm, mul-left-comm)
 
-flip : (z : Float) (s : Bool) (y c : ℕ) → HasValue z s y c → HasValue (neg z) (not s) y c
-unfolding neg
-flip nan s y c h = h
-flip (inf t) s y c h = h
-flip (fin t m e) s y c h = (ap not (h .0), h .1)
+    kept : (s : Bool) → unlike false s ≡ s
+    kept true = refl
+    kept false = refl
 
-product : ℕ → Float
-product a = mul binary32 (ofInt binary32 (pos a)) (fin false 1 (negsuc 21))
+product : Bool → ℕ → Float
+product s a = mul binary32 (ofInt binary32 (pos a)) (fin s 1 (negsuc 21))
 
-product-value : (a : ℕ) → a < 16777216 → HasValue (product a) false (a * 2 ^ 127) (2 ^ 149)
+product-value : (s : Bool) (a : ℕ) → a < 16777216 → HasValue (product s a) s (a * 2 ^ 127) (2 ^ 149)
 unfolding product ofInt
-product-value a l = times-tiny (round binary32 false a 1) a l (round-whole binary32 false a (le-of-lt l))
+product-value s a l = times-tiny s (round binary32 false a 1) a l (round-whole binary32 false a (le-of-lt l))
 
-pub plus-is : (a : ℕ) → a < 16777216 → mul binary32 (ofInt binary32 (pos a)) (fin false 1 (negsuc 21)) ≡ turned false a
+pub product-is : (s : Bool) (a : ℕ) → a ≤ 13176795 → mul binary32 (ofInt binary32 (pos a)) (fin s 1 (negsuc 21)) ≡ turned s a
 unfolding product
-plus-is a l = one-value (product a) (turned false a) false (a * 2 ^ 127) (mul-fits binary32 (ofInt binary32 (pos a)) (fin false 1 (negsuc 21))) (turned-fits false a l) (product-value a l) (turned-value false a l)
+product-is s a h = one-value (product s a) (turned s a) s (a * 2 ^ 127) (mul-fits binary32 (ofInt binary32 (pos a)) (fin s 1 (negsuc 21))) (turned-fits s a (few h)) (product-value s a (few h)) (turned-value s a (few h))
+  where
+    few : a ≤ 13176795 → a < 16777216
+    few g = omega arith
 
-pub minus-is : (a : ℕ) → a < 16777216 → neg (mul binary32 (ofInt binary32 (pos a)) (fin false 1 (negsuc 21))) ≡ turned true a
-unfolding product
-minus-is a l =
-    one-value (neg (product a)) (turned true a) true (a * 2 ^ 127) (neg-fits binary32 (product a) (mul-fits binary32 (ofInt binary32 (pos a)) (fin false 1 (negsuc 21)))) (turned-fits true a l)
-    (flip (product a) false (a * 2 ^ 127) (2 ^ 149) (product-value a l)) (turned-value true a l)
-
--- ---- `scaled`: the literal is 2 ^ -22
-literal : ofBits binary32 880803840 ≡ fin false 1 (negsuc 21)
+-- ---- `unit`: the literals are 2 ^ -22
+pub unit-plus : ofBits binary32 880803840 ≡ fin false 1 (negsuc 21)
 unfolding ofBits
-literal = refl
+unit-plus = refl
 
-pub scaled-plus : (s : Bool) (a : ℕ) → s ≡ false → a ≤ 13176795 → mul binary32 (ofInt binary32 (pos a)) (ofBits binary32 880803840) ≡ turned s a
-scaled-plus s a e h = ap (λ (v : Float). mul binary32 (ofInt binary32 (pos a)) v) literal ∙ plus-is a (few h) ∙ ap (λ (b : Bool). turned b a) (sym e)
-  where
-    few : a ≤ 13176795 → a < 16777216
-    few g = omega arith
-
-pub scaled-minus : (s : Bool) (a : ℕ) → s ≡ true → a ≤ 13176795 → neg (mul binary32 (ofInt binary32 (pos a)) (ofBits binary32 880803840)) ≡ turned s a
-scaled-minus s a e h = ap (λ (v : Float). neg (mul binary32 (ofInt binary32 (pos a)) v)) literal ∙ minus-is a (few h) ∙ ap (λ (b : Bool). turned b a) (sym e)
-  where
-    few : a ≤ 13176795 → a < 16777216
-    few g = omega arith
+pub unit-minus : neg (ofBits binary32 880803840) ≡ fin true 1 (negsuc 21)
+unfolding neg
+unit-minus = ap neg unit-plus

@@ -1,17 +1,29 @@
 // From f32 to whole numbers of at most 25 digits, and back.
 ghost use mathlib.Core.Path.{_≡_};
 ghost use Prim.Native.Nat.{_≤_, _<_};
+ghost use lib.IntN.{negsuc};
+ghost use lib.Ieee.{fin};
 ghost use Rattle.units.specs.Patterns.{val};
 ghost use Rattle.units.specs.Units.{mag};
 ghost use Rattle.arcs.specs.How.{Sorted, partOf, ratio, turned};
 
-// A whole number of 2^-22 as an f32.
+// 2^-22, or its negative.
+fn unit(below: bool) -> f32
+    ensures { λ r. ⌜ r ≡ fin below 1 (negsuc 21) ⌝ }
+{
+    if below {
+        -0.0000002384185791015625
+    } else {
+        0.0000002384185791015625
+    }
+}
+
+// A whole number of 2^-22 as an f32. The sign is the unit's, so that nothing waits for a guess at it.
 pub fn scaled(below: bool, a: u32) -> f32
     requires { ⌜ a ≤ 13176795 ⌝ }
     ensures { λ r. ⌜ r ≡ turned below a ⌝ }
 {
-    let z = a as f32 * 0.0000002384185791015625;
-    if below { -z } else { z }
+    a as f32 * unit(below)
 }
 
 // A number of at most 1 in units of 2^-25, cut; m is its bits without the sign.

@@ -1,20 +1,23 @@
 -- `arcs::digits::scaled` meets its contract: the product by 2 ^ -22 is exact.
+use mathlib.Core.Path.{_∙_, ap}
 use native.Mathlib.Omega.{arith}
 use lib.Dec.{le→leb}
-use lib.Ieee.{inFloat, ofBits}
-use Rattle.arcs.proofs.Results.{scaled-plus, scaled-minus}
+use lib.IntN.{pos}
+use lib.Ieee.{binary32, inFloat, mul, ofInt}
+use Rattle.arcs.proofs.Results.{product-is}
+use borrow.Author.Needs.{needs}
 use Rattle.arcs.proofs.digits.scaled.Statement.{statement}
 use Rattle.arcs.proofs.digits.scaled.Tie as tie
 
-int-to-float-z : tie.Need-int-to-float-z
+int-to-float-result : tie.Need-int-to-float-result
 unfolding inFloat
-int-to-float-z c = le→leb (c .before .args .a) 16777216 (omega arith)
+int-to-float-result c = le→leb (c .before .args .a) 16777216 (omega arith)
+
+unit-requires : tie.Need-unit-requires
+unit-requires c κs = search needs
 
 returns : tie.Need-returns
-returns c = scaled-minus (c .before .before .args .below) (c .before .before .args .a) (c .if1 .taken) (c .before .before .pre)
-
-returns-2 : tie.Need-returns-2
-returns-2 c = scaled-plus (c .before .before .args .below) (c .before .before .args .a) (c .if1 .left) (c .before .before .pre)
+returns c = let s = c .before .before in ap (mul binary32 (ofInt binary32 (pos (s .args .a)))) (c .unit .ensures) ∙ product-is (s .args .below) (s .args .a) (s .pre)
 
 pub scaled-spec : {M : Type 1} → statement M
-scaled-spec = tie.close (tie.spec int-to-float-z returns returns-2)
+scaled-spec = tie.close (tie.spec int-to-float-result unit-requires returns)
