@@ -2,16 +2,12 @@
 use mathlib.Core.Path.{_≡_, refl, sym, ap, ap₂, _∙_, subst, subst₂}
 use mathlib.Core.Logic.{_⊎_, inl, inr}
 use mathlib.Core.Bool.{Bool, true, false, cond, _&&_, true≢false}
-use Prim.Native.Nat.{ℕ, zero, suc, _+_, _*_, _/_, _≤_, _<_}
-use native.Mathlib.Nat.{mul-one, mul-pos, mul-right-comm, mul-le-mul-right}
+use Prim.Native.Nat.{ℕ, zero, suc, _+_, _≤_, _<_}
 use native.Mathlib.Omega.{arith}
 use lib.Dec.{T, ltb}
-use lib.IntN.{pos}
-use lib.Pow.{pow-pos}
-use lib.Ieee.{Float, nan, inf, fin, binary32, up, down, units, round, fits, ofBits, toBits, ofInt}
+use lib.Ieee.{Float, binary32, units, fits, ofBits, toBits}
 use lib.Ieee.Exact.{HasValue}
-use lib.Ieee.Back.{round-whole}
-use lib.Ieee.Fits.{and-l, and-r}
+use lib.Ieee.Fits.{and-i, and-l, and-r}
 use Rattle.numbers.specs.Door.{finite, permits, unless, either}
 use Rattle.numbers.specs.Limits.{arcCosineArgument}
 use Rattle.numbers.specs.Told.{choose}
@@ -20,51 +16,17 @@ use Rattle.units.specs.Units.{mag, unity}
 use Rattle.units.specs.Patterns.{val}
 use Rattle.units.proofs.Values.{mag-is}
 use Rattle.units.proofs.Patterns.{bits-val}
-use Rattle.arcs.specs.How.{Sorted, angle, smaller, larger, ratio, angleOf, turned, partOf, side, insideArcCosine, arcCosine, finiteAtan2, atan2}
+use Rattle.arcs.specs.How.{Sorted, angle, smaller, larger, ratio, angleOf, turned, side, insideArcCosine, arcCosine, finiteAtan2, atan2}
 use Rattle.arcs.specs.Wedges.{signBit, ArcCosineOf, Atan2Of}
-use Rattle.arcs.proofs.Beside.{Root}
-use Rattle.arcs.proofs.ArcRule.{large}
-use Rattle.arcs.proofs.WholeRoots.{root-of}
 use Rattle.arcs.proofs.Patterns.{sign, bare, mag-val, sign-val}
-use Rattle.arcs.proofs.Fields.{val-lt, val-le, val-ltb, at-most-unity}
-use Rattle.arcs.proofs.Ratios.{ratio-scale, smaller-le, larger-pos}
-use Rattle.arcs.proofs.ArcBand.{permitted-finite, at-most-one}
+use Rattle.arcs.proofs.Fields.{val-lt, val-le, val-ltb}
+use Rattle.arcs.proofs.Ratios.{smaller-le, larger-pos}
+use Rattle.arcs.proofs.ArcBand.{permitted-finite, side-finite}
 use Rattle.arcs.proofs.Atan2Band.{zero-angle}
 use Rattle.arcs.proofs.Bands.{arc-cosine-band, atan2-band}
 
--- ---- arc cosine
-module _ (q : Float) (f : T (fits binary32 q)) (h : T (permits arcCosineArgument q)) where
-  abbrev b : ℕ
-  b = toBits binary32 q
-
-  pub pattern-le : bare b ≤ 1065353216
-  pattern-le = at-most-unity (bare b) (subst (λ (n : ℕ). n ≤ unity) (mag-val q f (permitted-finite q f h)) (at-most-one q f h))
-
-  pub arc-is : (x y u v w a : ℕ) (i j r : Float) → x ≡ partOf (val (bare b)) → y ≡ side (x / 2) → u ≡ smaller (x / 2) y → v ≡ larger (x / 2) y → mag i ≡ u * unity → mag j ≡ v * unity → 0 < v
-      → w ≡ ratio (mag i) (mag j) → a ≡ angle (ltb (x / 2) y) (sign b) w → r ≡ turned false a → r ≡ insideArcCosine q
-  unfolding insideArcCosine
-  arc-is x y u v w a i j r ex ey eu ev ei ej p ew ea er =
-      er
-      ∙ ap (turned false)
-      (ea ∙ ap (angle (ltb (x / 2) y) (sign b)) (ew ∙ ap₂ ratio ei ej ∙ ratio-scale u v unity p (pow-pos 149) ∙ ap₂ ratio eu ev)
-      ∙ ap (angleOf (sign b) (x / 2)) ey
-      ∙ ap₂ (λ (s : Bool) (n : ℕ). angleOf s (n / 2) (side (n / 2))) (sym (sign-val q f (permitted-finite q f h))) (ex ∙ ap partOf (sym (mag-val q f (permitted-finite q f h)))))
-
--- a whole number up to 2 ^ 24 as an f32
-pub whole-value : (n : ℕ) → n ≤ 16777216 → HasValue (ofInt binary32 (pos n)) false (n * unity) unity
-unfolding ofInt
-whole-value n h = more (round binary32 false n 1) (round-whole binary32 false n h)
-  where
-    more : (z : Float) → HasValue z false n 1 → HasValue z false (n * unity) unity
-    more nan v = v
-    more (inf s) v = v
-    more (fin s m e) v = (v .0, ap (λ (k : ℕ). k * unity) (sym (mul-one (m * up e)) ∙ v .1) ∙ mul-right-comm n (down e) unity)
-
-pub whole-mag : (n : ℕ) → n ≤ 16777216 → mag (ofInt binary32 (pos n)) ≡ n * unity
-whole-mag n h = mag-is (ofInt binary32 (pos n)) false (n * unity) (whole-value n h)
-
--- the two sides, sorted
-pub sorted-of : (u v : Float) (m n : ℕ) → HasValue u false m unity → HasValue v false n unity → m ≤ n → 0 < n → Sorted u v
+-- ---- atan2: two sides, sorted
+sorted-of : (u v : Float) (m n : ℕ) → HasValue u false m unity → HasValue v false n unity → m ≤ n → 0 < n → Sorted u v
 sorted-of u v m n hu hv l p =
     let eu = mag-is u false m hu in
     let ev = mag-is v false n hv in
@@ -75,26 +37,7 @@ sorted-of u v m n hu hv l p =
       some = subst (λ (k : ℕ). 0 < k) (sym ev) p;
     }
 
-pub sides-le : (x y : ℕ) → x ≤ 16777216 → y ≤ 16777216 → (smaller x y ≤ 16777216) × (larger x y ≤ 16777216)
-sides-le x y h k = go (ltb x y)
-  where
-    go : (b : Bool) → (cond b x y ≤ 16777216) × (cond b y x ≤ 16777216)
-    go true = (h, k)
-    go false = (k, h)
-
-pub sides-some : (x y : ℕ) → x ≤ 16777216 → y ≡ side x → 0 < larger x y
-sides-some x y h e = above (large x y (subst (λ (n : ℕ). Root x n) (sym e) (root-of x h)))
-  where
-    above : {n : ℕ} → 11863283 ≤ n → 0 < n
-    above g = omega arith
-
-pub sides-sorted : (x y u v : ℕ) → x ≤ 16777216 → y ≤ 16777216 → y ≡ side x → u ≡ smaller x y → v ≡ larger x y → Sorted (ofInt binary32 (pos u)) (ofInt binary32 (pos v))
-sides-sorted x y u v h k e eu ev =
-    let l = sides-le x y h k in
-    subst₂ (λ (m n : ℕ). Sorted (ofInt binary32 (pos m)) (ofInt binary32 (pos n))) (sym eu) (sym ev)
-    (sorted-of (ofInt binary32 (pos (smaller x y))) (ofInt binary32 (pos (larger x y))) (smaller x y * unity) (larger x y * unity) (whole-value (smaller x y) (l .0)) (whole-value (larger x y) (l .1)) (mul-le-mul-right unity (smaller-le x y)) (mul-pos (sides-some x y h e) (pow-pos 149)))
-
--- ---- atan2: the patterns have the order of their numbers
+-- the patterns have the order of their numbers
 bits-mag : (b : ℕ) → b < 2139095040 → mag (ofBits binary32 b) ≡ val b
 bits-mag b h = mag-is (ofBits binary32 b) false (val b) (bits-val b h)
 
@@ -156,6 +99,14 @@ module _ (y x : Float) (fy : T (fits binary32 y)) (fx : T (fits binary32 x)) (h 
       let i : bare bx ≡ 0 = omega arith in
       let j : bare by ≡ 0 = omega arith in
       er ∙ ap (turned (sign by)) (ea ∙ sym (zero-angle (sign bx)) ∙ sym (ap₂ (λ (m n : ℕ). angleOf (sign bx) (val m) (val n)) i j)) ∙ sym of-bits
+
+-- ---- arc cosine
+pub root-finite : (q s : Float) → T (fits binary32 q) → T (permits arcCosineArgument q) → s ≡ side q → T (finite s && finite q)
+root-finite q s f h e = and-i (finite s) (finite q) (subst (λ (z : Float). T (finite z)) (sym e) (side-finite q f h)) (permitted-finite q f h)
+
+pub arc-is : (q s r : Float) → s ≡ side q → r ≡ finiteAtan2 s q → r ≡ insideArcCosine q
+unfolding insideArcCosine
+arc-is q s r e k = k ∙ ap (λ (z : Float). finiteAtan2 z q) e
 
 pub zeros-le : (s : Bool) → cond s 13176795 0 ≤ 13176795
 zeros-le true = omega arith

@@ -1,35 +1,32 @@
 -- `insideArcCosine` meets document 01's rule for arc cosine, at any e of F * 2 ^ -22 with F from 4 to 16. Assumes nothing.
-use mathlib.Core.Path.{_≡_, refl, sym, ap₂, _∙_, subst}
-use mathlib.Core.Logic.{_⊎_}
+use mathlib.Core.Path.{_≡_, refl, sym, ap, ap₂, _∙_, subst}
 use mathlib.Core.Bool.{Bool, true, false}
 use Prim.Native.Nat.{ℕ, _+_, _*_, _^_, _≤_, _<_}
 use native.Mathlib.Nat.{le-of-eq, le-of-mul-le-mul-right, zero-add, add-zero}
 use native.Mathlib.Omega.{arith}
 use lib.Dec.{T, lit<}
 use lib.IntN.{pos}
-use lib.Ieee.{Float, fin, binary32, size, units, fits, toBits}
+use lib.Ieee.{Float, fin, binary32, size, units, fits}
 use lib.Ieee.Exact.{HasValue}
 use Rattle.numbers.specs.Door.{finite, permits}
 use Rattle.numbers.specs.Limits.{arcCosineArgument}
 use Rattle.units.specs.Units.{mag, unity, hi, lo}
 use Rattle.units.proofs.Values.{part-finite}
+use Rattle.units.proofs.Errors.{unity-pos}
 use Rattle.units.proofs.Door.{finite-is, permitted, permitted-mag}
 use Rattle.units.proofs.Table.{arc-cosine-argument-ends}
 use Rattle.series.specs.Fractions.{Fraction, _÷_, whole, signed, _≋_, value}
 use Rattle.series.proofs.Fractions.{same-sym, same-trans}
 use Rattle.arc_rows.specs.ArcTangent.{arcTangent}
-use Rattle.arcs.specs.How.{angle, wide, sharp, slope, lean, ratio, angleOf, turned, wholeRoot, partOf, across, side, insideArcCosine}
+use Rattle.arcs.specs.How.{angle, wide, sharp, slope, lean, ratio, angleOf, turned, partOf, finiteAtan2, side, insideArcCosine}
 use Rattle.arcs.specs.Wedges.{signBit, ArcCosine}
 use Rattle.arcs.proofs.Numbers.{value-is, value-over}
 use Rattle.arcs.proofs.Places.{G, G-pos}
-use Rattle.arcs.proofs.Turn.{angle-le}
-use Rattle.arcs.proofs.Beside.{Root}
-use Rattle.arcs.proofs.ArcRule.{Part, large, sides, low-side, high-side}
-use Rattle.arcs.proofs.WholeRoots.{root-of}
-use Rattle.arcs.proofs.Parts.{across-le, part-of, exact-val}
-use Rattle.arcs.proofs.Patterns.{bare, finite-of, mag-val, in-units}
+use Rattle.arcs.proofs.RootNear.{side-value, side-root, side-none}
+use Rattle.arcs.proofs.ArcRule.{sides, low-side, high-side}
+use Rattle.arcs.proofs.Patterns.{sign-is, finite-of, in-units}
 use Rattle.arcs.proofs.Results.{turned-value}
-use Rattle.arcs.proofs.Atan2Band.{few, turned-is, turned-le}
+use Rattle.arcs.proofs.Atan2Band.{few, turned-is, turned-le, any-le}
 
 pub permitted-finite : (q : Float) → T (fits binary32 q) → T (permits arcCosineArgument q) → T (finite q)
 permitted-finite q f h = subst T (sym (finite-is q)) (part-finite binary32 q (hi q) (lo q) (permitted arcCosineArgument 0 unity unity 0 arc-cosine-argument-ends q f h .single .ok))
@@ -37,34 +34,30 @@ permitted-finite q f h = subst T (sym (finite-is q)) (part-finite binary32 q (hi
 pub at-most-one : (q : Float) → T (fits binary32 q) → T (permits arcCosineArgument q) → mag q ≤ unity
 at-most-one q f h = permitted-mag arcCosineArgument 0 unity unity 0 arc-cosine-argument-ends unity (le-of-eq (zero-add unity)) (le-of-eq (add-zero unity)) q f h
 
-at-one : turned false (angleOf false (across (2 ^ 149)) (side (across (2 ^ 149)))) ≡ fin false 0 (pos 0)
-unfolding partOf ratio wholeRoot angle wide sharp slope lean arcTangent turned units size
+at-one : turned false (angleOf false (2 ^ 149) 0) ≡ fin false 0 (pos 0)
+unfolding partOf ratio angle wide sharp slope lean arcTangent turned units size
 at-one = refl
 
 module _ (q : Float) (f : T (fits binary32 q)) (h : T (permits arcCosineArgument q)) where
   is-finite : T (finite q)
   is-finite = permitted-finite q f h
 
-  abbrev Q : ℕ
-  Q = across (mag q)
-
-  pub Q-le : Q ≤ 16777216
-  Q-le = across-le (mag q) (at-most-one q f h)
-
-  pub Q-root : Root Q (side Q)
-  Q-root = root-of Q Q-le
-
-  Q-part : Part (mag q) Q
-  Q-part = part-of (mag q) (subst (λ (n : ℕ). (n ≡ across n * 2 ^ 125) ⊎ (across n < 8388608)) (sym (mag-val q f is-finite)) (exact-val (bare (toBits binary32 q))))
+  abbrev Y : ℕ
+  Y = mag (side q)
 
   abbrev B : ℕ
-  B = angleOf (signBit q) Q (side Q)
+  B = angleOf (signBit q) (mag q) Y
+
+  pub side-finite : T (finite (side q))
+  side-finite = finite-of (side q) false Y unity (side-value q f is-finite (at-most-one q f h))
+
+  -- the root is not negative, so no sign is put on the angle
+  pub inside-turned : insideArcCosine q ≡ turned false B
+  unfolding insideArcCosine finiteAtan2
+  inside-turned = ap (λ (s : Bool). turned s B) (sign-is (side q) false Y unity (side-value q f is-finite (at-most-one q f h)))
 
   pub arc-le : B ≤ 13176795
-  arc-le = angle-le (signBit q) Q (side Q) (above (large Q (side Q) Q-root))
-    where
-      above : {n : ℕ} → 11863283 ≤ n → 0 < n
-      above g = omega arith
+  arc-le = any-le (signBit q) (mag q) Y
 
   abbrev a : Float
   a = turned false B
@@ -100,10 +93,9 @@ module _ (q : Float) (f : T (fits binary32 q)) (h : T (permits arcCosineArgument
           plain i = omega arith
 
   module _ (e : Fraction) (F : ℕ) (F-low : 4 ≤ F) (F-high : F ≤ 16) (e-is : e ≋ (256 * F) ÷ G) (e-pos : 0 < e .over) where
-    pub arc-rule : ArcCosine e q (insideArcCosine q)
-    unfolding insideArcCosine
-    arc-rule =
-        let s = sides F F-low F-high (mag q) Q (side Q) Q-part Q-root (signBit q) in
+    rule : ArcCosine e q a
+    rule =
+        let s = sides F F-low F-high unity (mag q) Y unity-pos (at-most-one q f h) (side-root q f is-finite (at-most-one q f h)) (signBit q) in
         let i : q₀ ≋ value q = same-sym (value q) q₀ q-is in
         let j : value a ≋ (256 * B) ÷ G = turned-is false B arc-le in
         record {
@@ -112,7 +104,9 @@ module _ (q : Float) (f : T (fits binary32 q)) (h : T (permits arcCosineArgument
           most = turned-le false B arc-le .1;
           low = low-side e (256 * F) e-is e-pos (value q) q₀ (value a) (256 * B) i q-over j (value-over a) s;
           high = high-side e (256 * F) e-is e-pos (value q) q₀ (value a) (256 * B) i q-over j (value-over a) s;
-          of-one = λ k. ap₂ (λ (t : Bool) (n : ℕ). turned false (angleOf t (across n) (side (across n)))) (one-is k .0) (one-is k .1) ∙ at-one;
+          of-one = λ k.
+              let m = one-is k .1 in
+              ap₂ (λ (t : Bool) (n : ℕ). turned false (angleOf t n Y)) (one-is k .0) m ∙ ap (λ (n : ℕ). turned false (angleOf false (2 ^ 149) n)) (side-none q f is-finite (at-most-one q f h) (le-of-eq (sym m))) ∙ at-one;
         }
       where
         not-below : (v : Fraction) (n : ℕ) → v ≋ n ÷ G → 0 * v .over + v .minus * 1 ≤ v .plus * 1 + 0 * v .over
@@ -120,3 +114,6 @@ module _ (q : Float) (f : T (fits binary32 q)) (h : T (permits arcCosineArgument
           where
             go : (p m o g : ℕ) → 0 < g → p * g + 0 * o ≡ n * o + m * g → 0 * o + m * 1 ≤ p * 1 + 0 * o
             go p m o g i k = let l : m ≤ p = le-of-mul-le-mul-right {m = m} {n = p} {k = g} (omega arith) i in omega arith
+
+    pub arc-rule : ArcCosine e q (insideArcCosine q)
+    arc-rule = subst (λ (z : Float). ArcCosine e q z) (sym inside-turned) rule

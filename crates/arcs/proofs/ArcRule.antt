@@ -1,9 +1,9 @@
--- Arc cosine of whole numbers: the computed angle of (Q, Y) or (-Q, Y), Y the root of 2 ^ 48 - Q ^ 2 cut, meets document 01's rule for a q of which Q is the whole part in units of 2 ^ -24, at any e of F * 2 ^ -22 with F from 4 to 16. Assumes nothing.
+-- Arc cosine of whole numbers: the computed angle of (Q, Y) or (-Q, Y), Y near to the root of U ^ 2 - Q ^ 2, meets document 01's rule for Q / U, at any e of F * 2 ^ -22 with F from 4 to 16. Assumes nothing.
 use Prim.Native.Nat.{ℕ, suc, _+_, _*_, _-_, _/_, _^_, _≤_, _<_}
 use mathlib.Core.Path.{_≡_, refl, sym, subst}
-use mathlib.Core.Logic.{_⊎_, inl, inr}
+use mathlib.Core.Logic.{inl, inr}
 use mathlib.Core.Bool.{Bool, true, false, not, cond}
-use native.Mathlib.Nat.{le-refl, le-of-lt, add-zero, mul-le-mul, mul-le-mul-right}
+use native.Mathlib.Nat.{le-refl, le-of-lt, add-zero, mul-le-mul}
 use native.Mathlib.Omega.{arith}
 use lib.Dec.{T, ltb, ltb→lt, nltb→le, lit<}
 use Rattle.series.specs.Fractions.{Fraction, _÷_, whole, negative, signed, _⊕_, _⊖_, _≋_, _≼_, _≺_}
@@ -16,18 +16,12 @@ use Rattle.series.proofs.Circle.{pyth-up, pyth-down}
 use Rattle.series.proofs.Half.{sin-low}
 use Rattle.arcs.specs.How.{wide, angle, smaller, larger, ratio, angleOf}
 use Rattle.arcs.specs.Wedges.{P}
-use Rattle.arcs.proofs.Carry.{Apart}
 use Rattle.arcs.proofs.Octants.{Less, Right, Left, right, left}
 use Rattle.arcs.proofs.Numbers.{lt-same}
 use Rattle.arcs.proofs.Places.{G, G-pos, cosineAt, C-at, cosine-pos, less-at, plus-at}
 use Rattle.arcs.proofs.Turn.{Rounded, rounded}
-use Rattle.arcs.proofs.Beside.{Root, Long, upper-side, lower-side}
-
--- Q is the whole part of q / 2 ^ 125, and all of it unless it is below 2 ^ 23
-pub record Part (q Q : ℕ) : Type 0 where
-  pub low : Q * 2 ^ 125 ≤ q
-  pub high : q ≤ Q * 2 ^ 125 + 2 ^ 125
-  pub exact : (q ≡ Q * 2 ^ 125) ⊎ (Q < 8388608)
+use Rattle.arcs.proofs.Transfer.{Root}
+use Rattle.arcs.proofs.Beside.{Long, upper-side, lower-side}
 
 long : (n : ℕ) → n ≤ 4294967296 → Long (cp n) (cm n) (sp n) (sm n) D
 long n h = (pyth-up n h, pyth-down n h)
@@ -35,29 +29,29 @@ long n h = (pyth-up n h, pyth-down n h)
 long-flip : (c c' s s' d : ℕ) → Long c c' s s' d → Long c' c s s' d
 long-flip c c' s s' d h = (omega (arith, h .0), omega (arith, h .1))
 
--- the larger of the two is at least 2 ^ 24 over the root of 2
-pub large : (Q Y : ℕ) → Root Q Y → 11863283 ≤ larger Q Y
-large Q Y R = go (ltb Q Y) (ltb→lt Q Y) (nltb→le Q Y)
+-- the larger of the two is at least half of U
+under-x : (x y : ℕ) → x ≤ larger x y
+under-x x y = go (ltb x y) (ltb→lt x y)
   where
-    no : (m : ℕ) → m < 11863283 → Q ≤ m → Y ≤ m → ⊥
-    no m h i j = never (mul-le-mul i i) (mul-le-mul (up j) (up j)) (mul-le-mul h h) (R .high)
-      where
-        up : Y ≤ m → Y + 1 ≤ m + 1
-        up k = omega arith
+    go : (b : Bool) → (T b → x < y) → x ≤ cond b y x
+    go true f = le-of-lt (f tt)
+    go false f = le-refl x
 
-        never : Q * Q ≤ m * m → (Y + 1) * (Y + 1) ≤ (m + 1) * (m + 1) → suc m * suc m ≤ 11863283 * 11863283 → 281474976710656 < Q * Q + (Y + 1) * (Y + 1) → ⊥
-        never a b c g = omega arith
-
-    go : (b : Bool) → (T b → Q < Y) → (T (not b) → Y ≤ Q) → 11863283 ≤ cond b Y Q
-    go true f g = elim (here-or-on Y 11863283) [ inl k ↦ absurd (no Y k (le-of-lt (f tt)) (le-refl Y)) | inr k ↦ k ]
-    go false f g = elim (here-or-on Q 11863283) [ inl k ↦ absurd (no Q k (le-refl Q) (g tt)) | inr k ↦ k ]
-
--- so 9 * 2 ^ -25 of it is at least 3
-three : (v p q : ℕ) → 11863283 ≤ v → Apart v p q → p + 3 * D ≤ q
-three v p q h g = go D g
+under-y : (x y : ℕ) → y ≤ larger x y
+under-y x y = go (ltb x y) (nltb→le x y)
   where
-    go : (d : ℕ) → 33554432 * p + 9 * (v * d) ≤ 33554432 * q → p + 3 * d ≤ q
-    go d i = omega (arith, mul-le-mul-right d h)
+    go : (b : Bool) → (T (not b) → y ≤ x) → y ≤ cond b y x
+    go true f = le-refl y
+    go false f = f tt
+
+pub large : (U X Y : ℕ) → Root U X Y → U ≤ 2 * larger X Y
+large U X Y R = elim (here-or-on (2 * larger X Y) U) [
+  | inl g ↦ absurd (no (larger X Y) (R .Z) (mul-le-mul (under-x X Y) (under-x X Y)) (mul-le-mul (under-y X Y) (under-y X Y)) (mul-le-mul g g) (R .sum) (R .low))
+  | inr g ↦ g
+]
+  where
+    no : (v z : ℕ) → X * X ≤ v * v → Y * Y ≤ v * v → suc (2 * v) * suc (2 * v) ≤ U * U → X * X + z ≡ U * U → 2097151 * z ≤ 2097152 * (Y * Y) → ⊥
+    no v z a b c e f = omega arith
 
 -- ---- from the fact on whole numbers to the order of fractions
 above : (q u c c' d : ℕ) → c' * u + q * d ≤ c * u → q ÷ u ≼ difference c c' d
@@ -84,70 +78,64 @@ under' q u c c' d h = go
     go : c * u + q * d ≤ 0 * d + c' * u
     go = omega arith
 
-abbrev U : ℕ
-U = 16777216 * 2 ^ 125
-
 -- the two sides of the wedge at the angle n, E before and E past it
 pub record Sides (E : ℕ) (q : Fraction) (n : ℕ) : Type 0 where
   pub low : E < n → (k : ℕ) → k + E ≡ n → q ≼ difference (cp k) (cm k) D
   pub high : n + E < 3373259520 → difference (cp (n + E)) (cm (n + E)) D ≼ q
 
-module _ (F : ℕ) (F-low : 4 ≤ F) (F-high : F ≤ 16) (q Q Y : ℕ) (W : Part q Q) (R : Root Q Y) where
+module _ (F : ℕ) (F-low : 4 ≤ F) (F-high : F ≤ 16) (U Q Y : ℕ) (U-pos : 0 < U) (Q-le : Q ≤ U) (R : Root U Q Y) where
   abbrev E : ℕ
   E = 256 * F
 
-  u : ℕ
-  u = 2 ^ 125
+  abbrev v : ℕ
+  v = larger Q Y
 
-  u-pos : 0 < u
-  unfolding u
-  u-pos = lit< {m = 0} {n = 2 ^ 125} tt
+  some : 0 < v
+  some = go (large U Q Y R)
+    where
+      go : {n : ℕ} → U ≤ 2 * n → 0 < n
+      go g = omega arith
 
-  upper-at : (c c' s s' : ℕ) → Long c c' s s' D → Less (larger Q Y) Y Q c c' s s' → c * U ≤ c' * U + q * D
-  unfolding u
-  upper-at c c' s s' L h = upper-side Q Y c c' s s' D q u R L D-pos (W .low) u-pos (three (larger Q Y) (Y * c + Q * s') (Y * c' + Q * s) (large Q Y R) h)
+  upper-at : (c c' s s' : ℕ) → Long c c' s s' D → Less v Y Q c c' s s' → c * U ≤ c' * U + Q * D
+  upper-at c c' s s' L h = upper-side U Q Y v c c' s s' D R Q-le (under-x Q Y) (under-y Q Y) some U-pos L D-pos h (large U Q Y R)
 
-  lower-at : (c c' s s' : ℕ) → Long c c' s s' D → 2147483648 * s' ≤ 2147483648 * s + D → Less (larger Q Y) Y Q c' c s' s → c' * U + q * D ≤ c * U
-  unfolding u
-  lower-at c c' s s' L l h = lower-side Q Y c c' s s' D q u R L D-pos (three (larger Q Y) (Y * c' + Q * s) (Y * c + Q * s') (large Q Y R) h) l (W .high) (W .exact) u-pos
+  lower-at : (c c' s s' : ℕ) → Long c c' s s' D → 2147483648 * s' ≤ 2147483648 * s + D → Less v Y Q c' c s' s → c' * U + Q * D ≤ c * U
+  lower-at c c' s s' L l h = lower-side U Q Y v c c' s s' D R Q-le (under-x Q Y) (under-y Q Y) some U-pos L D-pos h l
 
   module _ (t A : ℕ) (B : Rounded t (256 * A)) where
-    right-low : Right (larger Q Y) Q Y t → E < 256 * A → (k : ℕ) → k + E ≡ 256 * A → q ÷ U ≼ difference (cp k) (cm k) D
+    right-low : Right v Q Y t → E < 256 * A → (k : ℕ) → k + E ≡ 256 * A → Q ÷ U ≼ difference (cp k) (cm k) D
     right-low r g k j =
         let b : k ≤ 3373259426 = omega (arith, r .most, B .up) in
         let b' : k ≤ 4294967296 = omega arith in
-        above q U (cp k) (cm k) D
+        above Q U (cp k) (cm k) D
         (lower-at (cp k) (cm k) (sp k) (sm k) (long k b') (sin-low k b)
         (r .before (t - k) k (omega (arith, B .up, B .down)) (omega (arith, B .up, B .down)) (omega (arith, B .up, B .down))))
 
-    right-high : Right (larger Q Y) Q Y t → 256 * A + E < 3373259520 → difference (cp (256 * A + E)) (cm (256 * A + E)) D ≼ q ÷ U
+    right-high : Right v Q Y t → 256 * A + E < 3373259520 → difference (cp (256 * A + E)) (cm (256 * A + E)) D ≼ Q ÷ U
     right-high r g =
         let k = 256 * A + E in
         let b : k ≤ 4294967296 = omega arith in
-        under q U (cp k) (cm k) D
+        under Q U (cp k) (cm k) D
         (upper-at (cp k) (cm k) (sp k) (sm k) (long k b)
         (r .past (k - t) k (omega (arith, B .up, B .down)) (omega (arith, B .up, B .down)) (omega (arith, B .up, B .down))))
 
-    left-low : Left (larger Q Y) Q Y t → E < 256 * A → (k : ℕ) → k + E ≡ 256 * A → negative (q ÷ U) ≼ difference (cp k) (cm k) D
+    left-low : Left v Q Y t → E < 256 * A → (k : ℕ) → k + E ≡ 256 * A → negative (Q ÷ U) ≼ difference (cp k) (cm k) D
     left-low r g k j =
         let b : k ≤ 4294967296 = omega (arith, r .most, B .up) in
-        above' q U (cp k) (cm k) D
+        above' Q U (cp k) (cm k) D
         (upper-at (cm k) (cp k) (sp k) (sm k) (long-flip (cp k) (cm k) (sp k) (sm k) D (long k b))
         (r .before (t - k) k (omega (arith, B .up, B .down)) (omega (arith, B .up, B .down)) (omega (arith, B .up, B .down))))
 
-    left-high : Left (larger Q Y) Q Y t → 256 * A + E < 3373259520 → difference (cp (256 * A + E)) (cm (256 * A + E)) D ≼ negative (q ÷ U)
+    left-high : Left v Q Y t → 256 * A + E < 3373259520 → difference (cp (256 * A + E)) (cm (256 * A + E)) D ≼ negative (Q ÷ U)
     left-high r g =
         let k = 256 * A + E in
         let b : k ≤ 3373259426 = omega arith in
         let b' : k ≤ 4294967296 = omega arith in
-        under' q U (cp k) (cm k) D
+        under' Q U (cp k) (cm k) D
         (lower-at (cm k) (cp k) (sp k) (sm k) (long-flip (cp k) (cm k) (sp k) (sm k) D (long k b')) (sin-low k b)
         (r .past (k - t) k (omega (arith, B .up, B .down)) (omega (arith, B .up, B .down)) (omega (arith, B .up, B .down))))
 
-  some : 0 < larger Q Y
-  some = omega (arith, large Q Y R)
-
-  pub sides : (left? : Bool) → Sides E (signed left? (q ÷ U)) (256 * angleOf left? Q Y)
+  pub sides : (left? : Bool) → Sides E (signed left? (Q ÷ U)) (256 * angleOf left? Q Y)
   unfolding angle
   sides false =
       let t = wide (ltb Q Y) false (ratio (smaller Q Y) (larger Q Y)) in

@@ -1,5 +1,5 @@
 -- What callers may take for granted of every answer of the cores: arc cosine is a finite number from 0 to P, atan2 one from -P to P, and the format holds it. Assumes nothing.
-use mathlib.Core.Path.{refl}
+use mathlib.Core.Path.{refl, sym, subst}
 use mathlib.Core.Bool.{Bool, true, false, _&&_}
 use Prim.Native.Nat.{ℕ, _+_, _*_, _^_, _≤_}
 use native.Mathlib.Nat.{le-of-eq, le-trans, add-zero, zero-add, mul-le-mul-right}
@@ -14,11 +14,11 @@ use Rattle.units.specs.Units.{Part, unity, mag}
 use Rattle.units.proofs.Values.{plus-part, minus-part}
 use Rattle.units.proofs.Order.{le-part}
 use Rattle.units.proofs.Bounds.{Result}
-use Rattle.arcs.specs.How.{turned, insideArcCosine, arcCosine, finiteAtan2, atan2, angleOf}
+use Rattle.arcs.specs.How.{turned, side, insideArcCosine, arcCosine, finiteAtan2, atan2, angleOf}
 use Rattle.arcs.specs.Wedges.{signBit}
 use Rattle.arcs.proofs.Patterns.{finite-of}
 use Rattle.arcs.proofs.Results.{turned-value, turned-fits}
-use Rattle.arcs.proofs.ArcBand.{arc-le}
+use Rattle.arcs.proofs.ArcBand.{inside-turned, arc-le}
 use Rattle.arcs.proofs.Atan2Band.{few, any-le}
 
 -- P, as an f32 and in units
@@ -123,8 +123,8 @@ nothing : 0 ≤ 13176795
 nothing = omega arith
 
 pub arc-cosine-bounds : (q : Float) → T (fits binary32 q) → FromZero (arcCosine q)
-unfolding arcCosine insideArcCosine
-arc-cosine-bounds q f = go (permits arcCosineArgument q) (λ (t : T (permits arcCosineArgument q)). unfold insideArcCosine in from-zero _ (arc-le q f t))
+unfolding arcCosine
+arc-cosine-bounds q f = go (permits arcCosineArgument q) (λ (t : T (permits arcCosineArgument q)). subst FromZero (sym (inside-turned q f t)) (from-zero (angleOf (signBit q) (mag q) (mag (side q))) (arc-le q f t)))
   where
     go : (b : Bool) → (T b → FromZero (insideArcCosine q)) → FromZero (choose b (insideArcCosine q) (turned false 0))
     go true h = h tt

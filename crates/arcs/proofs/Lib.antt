@@ -10,6 +10,7 @@ mod Ratios
 mod Carry
 mod Octants
 mod Transfer
+mod RootNear
 mod Beside
 mod Numbers
 mod Places
@@ -17,13 +18,10 @@ mod Turn
 mod Atan2Rule
 mod ArcRule
 mod Results
-mod WholeRoots
-mod Parts
 mod Atan2Band
 mod ArcBand
 mod Ranges
 mod Tabled
-mod Seeds
 pub mod Bands
 pub mod Bounds
 mod Answers

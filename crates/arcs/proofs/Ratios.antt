@@ -1,9 +1,9 @@
--- The ratio of two sides: how near it is, that it does not turn on their unit, and that a division of two f32 gives it. Assumes nothing.
+-- The ratio of two sides: how near it is, and that a division of two f32 gives it. Assumes nothing.
 use mathlib.Core.Path.{_≡_, sym, ap, _∙_, subst}
 use mathlib.Core.Logic.{_⊎_, inl, inr}
 use mathlib.Core.Bool.{Bool, true, false, not, cond}
 use Prim.Native.Nat.{ℕ, _+_, _*_, _/_, _%_, _^_, _≤_, _<_}
-use native.Mathlib.Nat.{le-trans, le-of-eq, le-of-lt, lt-of-le-of-lt, mul-pos, mul-le-mul-right, le-of-mul-le-mul-right, div-mul-le-self, lt-div-mul-add, div-le-of-le-mul}
+use native.Mathlib.Nat.{le-trans, le-of-eq, le-of-lt, lt-of-le-of-lt, mul-le-mul-right, le-of-mul-le-mul-right, div-mul-le-self, lt-div-mul-add, div-le-of-le-mul}
 use native.Mathlib.Omega.{arith}
 use lib.Dec.{T, ltb, ltb→lt, nltb→le, nleb→lt, lit<, lit≤}
 use lib.Pow.{pow-pos}
@@ -13,7 +13,7 @@ use lib.Ieee.Fits.{div-fits}
 use Rattle.numbers.specs.Door.{finite}
 use Rattle.units.specs.Units.{mag, rounded, unity}
 use Rattle.units.specs.Patterns.{val}
-use Rattle.units.proofs.Grid.{grid-mono, grid-same}
+use Rattle.units.proofs.Grid.{grid-mono}
 use Rattle.units.proofs.Held.{grid-exact}
 use Rattle.units.proofs.Errors.{div-abs}
 use Rattle.units.proofs.Multiply.{div-value}
@@ -48,14 +48,6 @@ ratio-near u v h p =
 
     below : (w n m : ℕ) → 0 < m → n ≤ w * m + m → u * (33554432 * m) ≤ n * v + v * (2 * m) → 33554432 * u ≤ w * v + 3 * v
     below w n m i j k = le-of-mul-le-mul-right {m = 33554432 * u} {n = w * v + 3 * v} {k = m} (omega (arith, mul-le-mul-right v j)) i
-
--- in any unit
-pub ratio-scale : (u v m : ℕ) → 0 < v → 0 < m → ratio (u * m) (v * m) ≡ ratio u v
-unfolding ratio
-ratio-scale u v m p q = ap partOf (grid-same binary32 (u * m) (v * m) u v (mul-pos p q) p (turn u v m))
-  where
-    turn : (u v m : ℕ) → u * m * v ≡ u * (v * m)
-    turn u v m = omega arith
 
 -- ---- the smaller and the larger
 pub smaller-le : (x y : ℕ) → smaller x y ≤ larger x y

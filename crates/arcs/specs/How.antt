@@ -1,13 +1,14 @@
--- How ours computes arc cosine and atan2, by one division of f32 and whole numbers: nothing of document 01. Arc cosine of what is not permitted, and atan2 of what is not finite, is +0.
-use Prim.Native.Nat.{ℕ, zero, suc, _+_, _-_, _*_, _/_, _%_, _^_, _≤_, _<_}
+-- How ours computes arc cosine and atan2, by one division of f32 and whole numbers, arc cosine by a root before them: nothing of document 01. Arc cosine of what is not permitted, and atan2 of what is not finite, is +0.
+use Prim.Native.Nat.{ℕ, _+_, _-_, _*_, _/_, _%_, _^_, _≤_, _<_}
 use mathlib.Core.Bool.{Bool, false, cond, _&&_}
-use lib.Dec.{leb, ltb}
-use lib.Ieee.{Float, binary32, units}
+use lib.Dec.{ltb}
+use lib.Ieee.{Float, binary32, units, ofBits, add, sub, mul}
 use lib.Ieee.Exact.{HasValue}
 use Rattle.numbers.specs.Door.{finite, permits}
 use Rattle.numbers.specs.Limits.{arcCosineArgument}
 use Rattle.numbers.specs.Told.{choose}
 use Rattle.units.specs.Units.{mag, rounded, unity}
+use Rattle.roots.specs.Root.{squareRoot}
 use Rattle.arc_rows.specs.ArcTangent.{arcTangent}
 use Rattle.arcs.specs.Wedges.{signBit}
 
@@ -73,27 +74,22 @@ angleOf left x y = angle (ltb x y) left (ratio (smaller x y) (larger x y))
 unfoldable pub turned : Bool → ℕ → Float
 turned below a = units binary32 below a 127
 
--- ---- arc cosine: the angle of (q, root of 1 - q²) in units of 2 ^ -24, both cut
--- the whole part of the root of n, for n below 4 ^ d
-unfoldable pub wholeRoot : ℕ → ℕ → ℕ
-wholeRoot zero n = 0
-wholeRoot (suc d) n = let r = 2 * wholeRoot d (n / 4) in cond (leb ((r + 1) * (r + 1)) n) (r + 1) r
-
-abbrev pub across : ℕ → ℕ
-across n = partOf n / 2
-
-abbrev pub side : ℕ → ℕ
-side x = wholeRoot 25 (281474976710656 - x * x)
-
-unfoldable pub insideArcCosine : Float → Float
-insideArcCosine q = turned false (angleOf (signBit q) (across (mag q)) (side (across (mag q))))
-
-unfoldable pub arcCosine : Float → Float
-arcCosine q = choose (permits arcCosineArgument q) (insideArcCosine q) (turned false 0)
-
 -- ---- atan2
 unfoldable pub finiteAtan2 : Float → Float → Float
 finiteAtan2 y x = turned (signBit y) (angleOf (signBit x) (mag x) (mag y))
 
 unfoldable pub atan2 : Float → Float → Float
 atan2 y x = choose (finite y && finite x) (finiteAtan2 y x) (turned false 0)
+
+-- ---- arc cosine: the angle of (q, root of 1 - q²), the root's number by two sums and a product
+abbrev pub unit : Float
+unit = ofBits binary32 1065353216
+
+unfoldable pub side : Float → Float
+side q = squareRoot (mul binary32 (sub binary32 unit q) (add binary32 unit q))
+
+unfoldable pub insideArcCosine : Float → Float
+insideArcCosine q = finiteAtan2 (side q) q
+
+unfoldable pub arcCosine : Float → Float
+arcCosine q = choose (permits arcCosineArgument q) (insideArcCosine q) (turned false 0)

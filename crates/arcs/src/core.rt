@@ -2,7 +2,6 @@
 // what is not from -1 to 1, and atan2 of what is not finite, is +0.
 use crate::angle;
 use crate::digits;
-use crate::whole_root;
 use numbers::door;
 use numbers::limits;
 ghost use mathlib.Core.Path.{_≡_};
@@ -37,20 +36,12 @@ pub fn atan2(y: f32, x: f32) -> f32
     }
 }
 
-// The angle of (q, root of 1 - q²), both in units of 2^-24 and cut: so an f32 holds them.
+// The angle of (q, root of 1 - q²).
 fn inside_arc_cosine(q: f32) -> f32
     requires { ⌜ T (permits arcCosineArgument q) ⌝ }
     ensures { λ r. ⌜ r ≡ insideArcCosine q ⌝ }
 {
-    let b = f32::to_bits(q);
-    let x = digits::part(b % 0x8000_0000) / 2;
-    let y = whole_root::whole_root(0x1_0000_0000_0000 - x as u64 * x as u64) as u32;
-    let steep = x < y;
-    let w = digits::ratio(
-        angle::chosen(steep, x, y) as f32,
-        angle::chosen(steep, y, x) as f32,
-    );
-    digits::scaled(false, angle::angle(steep, 0x8000_0000 <= b, w))
+    finite_atan2(roots::core::square_root((1.0 - q) * (1.0 + q)), q)
 }
 
 // Of two zeros it is y's zero, or P with y's sign where x is -0. P is 13176795 units of 2^-22.

@@ -1,5 +1,6 @@
 // Arc cosine and atan2 of f32: one division of f32 for the ratio of a vector's sides, then whole
-// numbers of at most 64 bits, a table of 129 angles and two terms of a series for the rest.
+// numbers of at most 64 bits, a table of 129 angles and two terms of a series for the rest. Arc
+// cosine is the angle of (q, root of 1 - q²).
 use numbers::Answer;
 use numbers::door;
 use numbers::limits;
@@ -14,7 +15,6 @@ mod angle;
 pub mod core;
 mod digits;
 mod table;
-mod whole_root;
 
 // Why (y, x) is turned away: 1 if either is a NaN or an infinity, 2 if either is outside -128 to 128.
 fn atan2_refused(y: f32, x: f32) -> u32
