@@ -149,10 +149,3 @@ taken false false e = absurd (never e)
   where
     never : _≡_ {A = ℕ} 1 0 → ⊥
     never g = omega arith
-
--- the two cases of an answer differ, and a value is one number
-pub never-both : (n : ℕ) (a : Float) → Refused n ≡ Value a → ⊥
-never-both n a e = let z : _≡_ {A = ℕ} 0 1 = cc in omega arith
-
-pub one-number : (x a : Float) → Value x ≡ Value a → x ≡ a
-one-number x a e = cc

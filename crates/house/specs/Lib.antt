@@ -12,7 +12,6 @@ pub use Rattle.sines.specs.Entries as SinesEntries
 pub use Rattle.arcs.specs.Wedges as ArcsWedges
 pub use Rattle.arcs.specs.Entries as ArcsEntries
 pub use Rattle.arcs.specs.How as ArcsHow
-pub use Rattle.arcs.specs.Digits as ArcsDigits
 pub use Rattle.legs.specs.Legs as LegsLegs
 pub use Rattle.legs.specs.Masks as LegsMasks
 pub use Rattle.legs.specs.Answers as LegsAnswers

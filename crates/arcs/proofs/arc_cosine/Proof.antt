@@ -4,11 +4,12 @@ use lib.Ieee.{Float}
 use borrow.Author.Tests.{eq-eqb, ne-eqb}
 use mathlib.Core.List.{[], _∷_}
 use Rattle.numbers.specs.Door.{finite, permits, FiniteEnds, unless, firstOf}
+use Rattle.numbers.proofs.OneAnswer.{never-both, one-number}
 use Rattle.numbers.specs.declared.door.Limit.{Limit}
 use Rattle.numbers.specs.Limits.{arcCosineArgument}
 use Rattle.arcs.specs.Wedges.{ArcCosineOf}
 use Rattle.arcs.specs.Entries.{arcCosineRefusal}
-use Rattle.arcs.proofs.Answers.{taken, never-both, one-number}
+use Rattle.arcs.proofs.Answers.{taken}
 use borrow.Author.Needs.{needs}
 use Rattle.arcs.proofs.arc_cosine.Statement.{statement}
 use Rattle.arcs.proofs.arc_cosine.Tie as tie

@@ -3,10 +3,11 @@ use mathlib.Core.Path.{_∙_, sym, subst}
 use lib.Ieee.{Float}
 use borrow.Author.Tests.{eq-eqb, ne-eqb}
 use Rattle.numbers.specs.Door.{finite, permits}
+use Rattle.numbers.proofs.OneAnswer.{never-both, one-number}
 use mathlib.Core.Bool.{_&&_}
 use Rattle.numbers.specs.Limits.{atan2Argument}
 use Rattle.arcs.specs.Wedges.{Atan2Of}
-use Rattle.arcs.proofs.Answers.{taken, never-both, one-number}
+use Rattle.arcs.proofs.Answers.{taken}
 use borrow.Author.Needs.{needs}
 use Rattle.arcs.proofs.atan2.Statement.{statement}
 use Rattle.arcs.proofs.atan2.Tie as tie
