@@ -8,6 +8,8 @@ extern "C" {
     fn probe_cosine(x: f32, out: &mut f32) -> u32;
     fn probe_arc_cosine(x: f32, out: &mut f32) -> u32;
     fn probe_atan2(y: f32, x: f32, out: &mut f32) -> u32;
+    fn probe_as_legs(s: *const f32, n: usize, out: *mut f32, m: usize) -> u32;
+    fn probe_from_legs(s: *const f32, n: usize, out: *mut f32, m: usize) -> u32;
     fn probe_merge(s: *const f32, n: usize, mask: u32, out: *mut f32, m: usize) -> u32;
     fn probe_select(s: *const f32, n: usize, mask: u32, out: *mut f32, m: usize, len: &mut usize) -> u32;
     fn probe_update(s: *const f32, n: usize, values: *const f32, v: usize, count: usize, mask: u32, out: *mut f32, m: usize) -> u32;
@@ -29,22 +31,25 @@ extern "C" {
     fn probe_step_iter(s: *const f32, n: usize, t: u32, a: u32, o: *mut f32, i: usize, p: *mut f32, j: usize, q: *mut f32, k: usize, max_move: &mut f32, height: &mut f32) -> u32;
     fn probe_timed_iter(s: *const f32, n: usize, t: u32, a: u32, ps: u64, pn: u32, o: *mut f32, i: usize, p: *mut f32, j: usize, q: *mut f32, k: usize, height: &mut f32, descent: &mut f32, s: &mut u64, ns: &mut u32) -> u32;
     fn probe_even_iter(s: *const f32, n: usize, t: u32, a: u32, ps: u64, pn: u32, o: *mut f32, i: usize, p: *mut f32, j: usize, q: *mut f32, k: usize, height: &mut f32, descent: &mut f32, s: &mut u64, ns: &mut u32) -> u32;
-    fn probe_step(s: *const f32, n: usize, t: u32, a: u32, out: *mut f32, m: usize) -> u32;
-    fn probe_timed_step(s: *const f32, n: usize, t: u32, a: u32, es: u64, en: u32, ps: u64, pn: u32, out: *mut f32, m: usize) -> u32;
-    fn probe_even_step(s: *const f32, n: usize, t: u32, a: u32, es: u64, en: u32, ps: u64, pn: u32, out: *mut f32, m: usize) -> u32;
+    fn probe_next_step(s: *const f32, n: usize, t: u32, a: u32, out: *mut f32, m: usize, o: *mut f32, i: usize, p: *mut f32, j: usize, q: *mut f32, k: usize, max_move: &mut f32, height: &mut f32, mark: &mut u32) -> u32;
+    fn probe_next_timed(s: *const f32, n: usize, t: u32, a: u32, es: u64, en: u32, ps: u64, pn: u32, out: *mut f32, m: usize, o: *mut f32, i: usize, p: *mut f32, j: usize, q: *mut f32, k: usize, height: &mut f32, descent: &mut f32, s: &mut u64, ns: &mut u32, mark: &mut u32) -> u32;
+    fn probe_next_even(s: *const f32, n: usize, t: u32, a: u32, es: u64, en: u32, ps: u64, pn: u32, out: *mut f32, m: usize, o: *mut f32, i: usize, p: *mut f32, j: usize, q: *mut f32, k: usize, height: &mut f32, descent: &mut f32, s: &mut u64, ns: &mut u32, mark: &mut u32) -> u32;
     fn probe_plan(s: *const f32, n: usize, t: u32, a: u32, seconds: u64, nanoseconds: u32, out: *mut f32, m: usize) -> u32;
     fn probe_ik(s: *const f32, n: usize, out: *mut f32, m: usize) -> u32;
     fn probe_fk(s: *const f32, n: usize, out: *mut f32, m: usize) -> u32;
 }
 
-/// What an entry is called with. Lent values of an update stand after the feet, at 18.
+/// What an entry is called with. Lent values of an update stand after the feet, at 18. A state that stepped is called again
+/// at the time `later`.
+#[derive(Clone, Copy)]
 pub struct Input {
-    pub f: [f32; 64],
+    pub f: [f32; 210],
     pub mask: u32,
     pub count: usize,
     pub tripod: u32,
     pub aggressive: u32,
     pub elapsed: Time,
+    pub later: Time,
     pub period: Time,
 }
 
@@ -66,10 +71,6 @@ impl Input {
     }
     fn leg(&self, l: usize) -> Leg {
         std::array::from_fn(|k| self.f[23 + 6 * l + k])
-    }
-    /// The lent points: eight of the input, then the first again and again.
-    fn lent(&self) -> Vec<Point> {
-        (0..self.count.min(64)).map(|i| self.point(18 + 3 * (if i < 8 { i } else { 0 }))).collect()
     }
 }
 
@@ -159,6 +160,23 @@ fn atan2(i: &Input, want: u32, w: &mut Worst) -> bool {
     d <= 1.0 / 262144.0 && out.is_sign_negative() == y.is_sign_negative() && out.abs() <= P
 }
 
+/// The same floats in the same order; a NaN may be any.
+fn moved_only(n: u32, out: &[f32], i: &Input) -> bool {
+    n == 0 && (0..18).all(|k| out[k].to_bits() == i.f[k].to_bits() || (out[k].is_nan() && i.f[k].is_nan()))
+}
+
+fn as_legs(i: &Input, _: u32, _: &mut Worst) -> bool {
+    let mut out = [HELD; 18];
+    let n = unsafe { probe_as_legs(i.at(0), 18, out.as_mut_ptr(), 18) };
+    moved_only(n, &out, i)
+}
+
+fn from_legs(i: &Input, _: u32, _: &mut Worst) -> bool {
+    let mut out = [HELD; 18];
+    let n = unsafe { probe_from_legs(i.at(0), 18, out.as_mut_ptr(), 18) };
+    moved_only(n, &out, i)
+}
+
 fn merge(i: &Input, want: u32, _: &mut Worst) -> bool {
     let mut out = [HELD; 18];
     let n = unsafe { probe_merge(i.at(0), 36, i.mask, out.as_mut_ptr(), 18) };
@@ -177,8 +195,8 @@ fn select(i: &Input, want: u32, _: &mut Worst) -> bool {
 
 fn update(i: &Input, want: u32, _: &mut Worst) -> bool {
     let mut out = [HELD; 18];
-    let n = unsafe { probe_update(i.at(0), 18, i.at(18), 24, i.count, i.mask, out.as_mut_ptr(), 18) };
-    n == want && if want == 0 { is_at(&out, &updated(i.feet(0), &i.lent(), i.mask)) } else { held(&out) }
+    let n = unsafe { probe_update(i.at(0), 18, i.at(18), 192, i.count, i.mask, out.as_mut_ptr(), 18) };
+    n == want && if want == 0 { is_at(&out, &updated(i.feet(0), &i.feet(18), i.mask)) } else { held(&out) }
 }
 
 fn one_move(i: &Input, n: u32, want: u32, out: &[f32]) -> bool {
@@ -201,21 +219,45 @@ fn move_vector(i: &Input, want: u32, _: &mut Worst) -> bool {
     one_move(i, n, want, &out)
 }
 
-/// A point sets out, and steps once.
-fn point_iter(i: &Input, want: u32, _: &mut Worst) -> bool {
-    let (mut out, mut m) = ([HELD; 6], HELD);
-    let n = unsafe { probe_point_iter(i.at(0), 7, out.as_mut_ptr(), 6, &mut m) };
-    n == want && if want == 0 { same(&out, &i.f[..6]) && same(&[m], &i.f[6..7]) } else { held(&out) && held(&[m]) }
+/// The rows of a move of N - 1 coordinates.
+fn move_rows<const N: usize>() -> [Row; N] {
+    std::array::from_fn(|k| if k < N - 1 { FOOT } else { MAX_MOVE })
 }
 
-fn next_point(i: &Input, want: u32, _: &mut Worst) -> bool {
+/// One call on a state of a moving point: the state that it leaves, or none where the answer is wrong.
+fn point_turn(i: &Input, want: u32) -> Option<Input> {
     let (mut point, mut out, mut m) = ([HELD; 3], [HELD; 6], HELD);
     let n = unsafe { probe_next_point(i.at(0), 7, point.as_mut_ptr(), 3, out.as_mut_ptr(), 6, &mut m) };
     let (p, moved) = if want == 0 { towards(i.point(0), i.point(3), i.f[6]) } else { ([0.0; 3], false) };
     if !moved {
-        return n == want && held(&point) && held(&out) && held(&[m]);
+        return (n == want && held(&point) && held(&out) && held(&[m])).then_some(*i);
     }
-    n == 256 && same(&point, &p) && same(&out[..3], &p) && same(&out[3..], &i.f[3..6]) && same(&[m], &i.f[6..7])
+    let good = n == 256 && same(&point, &p) && same(&out[..3], &p) && same(&out[3..], &i.f[3..6]) && same(&[m], &i.f[6..7]);
+    good.then(|| {
+        let mut after = *i;
+        after.f[..6].copy_from_slice(&out);
+        after.f[6] = m;
+        after
+    })
+}
+
+fn point_turns(i: &Input) -> Option<Input> {
+    point_turn(i, floats(&move_rows::<7>(), &i.f))
+}
+
+/// A point sets out, and takes a turn.
+fn point_iter(i: &Input, want: u32, _: &mut Worst) -> bool {
+    let (mut out, mut m) = ([HELD; 6], HELD);
+    let n = unsafe { probe_point_iter(i.at(0), 7, out.as_mut_ptr(), 6, &mut m) };
+    if want != 0 {
+        return n == want && held(&out) && held(&[m]);
+    }
+    n == 0 && same(&out, &i.f[..6]) && same(&[m], &i.f[6..7]) && point_turns(i).is_some()
+}
+
+/// Two turns, the second on the state that the first left.
+fn next_point(i: &Input, want: u32, _: &mut Worst) -> bool {
+    point_turn(i, want).is_some_and(|after| want != 0 || point_turns(&after).is_some())
 }
 
 fn move_feet(i: &Input, want: u32, _: &mut Worst) -> bool {
@@ -228,23 +270,38 @@ fn move_feet(i: &Input, want: u32, _: &mut Worst) -> bool {
     n == 256 * moved as u32 && is_at(&out, &feet)
 }
 
+fn feet_turn(i: &Input, want: u32) -> Option<Input> {
+    let (mut out, mut last, mut target, mut m) = ([HELD; 18], [HELD; 18], [HELD; 18], HELD);
+    let n = unsafe { probe_next_feet(i.at(0), 37, out.as_mut_ptr(), 18, last.as_mut_ptr(), 18, target.as_mut_ptr(), 18, &mut m) };
+    let (feet, moved) = if want == 0 { feet_towards(i.feet(0), i.feet(18), i.f[36]) } else { (i.feet(0), false) };
+    if !moved {
+        return (n == want && held(&out) && held(&last) && held(&target) && held(&[m])).then_some(*i);
+    }
+    let good = n == 256 && is_at(&out, &feet) && is_at(&last, &feet) && same(&target, &i.f[18..36]) && same(&[m], &i.f[36..37]);
+    good.then(|| {
+        let mut after = *i;
+        after.f[..18].copy_from_slice(&last);
+        after.f[18..36].copy_from_slice(&target);
+        after.f[36] = m;
+        after
+    })
+}
+
+fn feet_turns(i: &Input) -> Option<Input> {
+    feet_turn(i, floats(&move_rows::<37>(), &i.f))
+}
+
 fn feet_iter(i: &Input, want: u32, _: &mut Worst) -> bool {
     let (mut last, mut target, mut m) = ([HELD; 18], [HELD; 18], HELD);
     let n = unsafe { probe_feet_iter(i.at(0), 37, last.as_mut_ptr(), 18, target.as_mut_ptr(), 18, &mut m) };
     if want != 0 {
         return n == want && held(&last) && held(&target) && held(&[m]);
     }
-    n == 0 && same(&last, &i.f[..18]) && same(&target, &i.f[18..36]) && same(&[m], &i.f[36..37])
+    n == 0 && same(&last, &i.f[..18]) && same(&target, &i.f[18..36]) && same(&[m], &i.f[36..37]) && feet_turns(i).is_some()
 }
 
 fn next_feet(i: &Input, want: u32, _: &mut Worst) -> bool {
-    let (mut out, mut last, mut target, mut m) = ([HELD; 18], [HELD; 18], [HELD; 18], HELD);
-    let n = unsafe { probe_next_feet(i.at(0), 37, out.as_mut_ptr(), 18, last.as_mut_ptr(), 18, target.as_mut_ptr(), 18, &mut m) };
-    let (feet, moved) = if want == 0 { feet_towards(i.feet(0), i.feet(18), i.f[36]) } else { (i.feet(0), false) };
-    if !moved {
-        return n == want && held(&out) && held(&last) && held(&target) && held(&[m]);
-    }
-    n == 256 && is_at(&out, &feet) && is_at(&last, &feet) && same(&target, &i.f[18..36]) && same(&[m], &i.f[36..37])
+    feet_turn(i, want).is_some_and(|after| want != 0 || feet_turns(&after).is_some())
 }
 
 fn longest_distance(i: &Input, want: u32, _: &mut Worst) -> bool {
@@ -305,82 +362,152 @@ fn even(i: &Input, want: u32, _: &mut Worst) -> bool {
     number(n, out, want, || even_progress(i.elapsed, i.period))
 }
 
-/// A state that set out: start, last, target, two floats; the marks of tripod and lift.
-fn set_out(i: &Input, n: u32, want: u32, rows: &[[f32; 18]; 3], two: &[f32]) -> bool {
-    if want != 0 {
-        return n == want && held(rows.as_flattened()) && held(two);
+#[derive(Clone, Copy, PartialEq)]
+enum Pace {
+    Distance,
+    Timed,
+    Even,
+}
+
+/// The rows of a step's state: start, last, target; max move and height, or height and descent.
+fn step_rows(pace: Pace) -> [Row; 56] {
+    std::array::from_fn(|k| match k {
+        0..54 => FOOT,
+        54 if pace == Pace::Distance => MAX_MOVE,
+        _ => DIRECTION,
+    })
+}
+
+fn step_refusal(i: &Input, pace: Pace) -> u32 {
+    let first = floats(&step_rows(pace), &i.f);
+    let late = pace != Pace::Distance && !(elapsed_fits(i.elapsed) && period_fits(i.period));
+    if first == 0 && late { 3 } else { first }
+}
+
+fn lift_and_progress(i: &Input, pace: Pace) -> (Lift, f32) {
+    let lift = |height, descent| Lift { height, descent, tripod: i.tripod, aggressive: i.aggressive != 0 };
+    match pace {
+        Pace::Distance => (lift(i.f[55], 0.0), progress_by_distance(&i.course(), i.f[54])),
+        Pace::Timed => (lift(i.f[54], i.f[55]), timed_progress(i.elapsed, i.period)),
+        Pace::Even => (lift(i.f[54], i.f[55]), even_progress(i.elapsed, i.period)),
     }
-    n == 256 * i.tripod + 512 * i.aggressive
-        && same(&rows[0], &i.f[..18])
-        && same(&rows[1], &i.f[..18])
-        && same(&rows[2], &i.f[18..36])
-        && same(two, &i.f[36..38])
 }
 
-fn step_iter(i: &Input, want: u32, _: &mut Worst) -> bool {
-    let mut r = [[HELD; 18]; 3];
-    let (mut m, mut h) = (HELD, HELD);
-    let [a, b, c] = &mut r;
-    let n = unsafe { probe_step_iter(i.at(0), 38, i.tripod, i.aggressive, a.as_mut_ptr(), 18, b.as_mut_ptr(), 18, c.as_mut_ptr(), 18, &mut m, &mut h) };
-    set_out(i, n, want, &r, &[m, h])
+const NO_TIME: Time = Time { s: 77, ns: 78 };
+const NO_MARK: u32 = 79;
+
+/// What a step gives back: its feet; the state after: start, last, target, two floats, the period, the mark of tripod and lift.
+struct After {
+    feet: [f32; 18],
+    rows: [[f32; 18]; 3],
+    two: [f32; 2],
+    period: Time,
+    mark: u32,
 }
 
-fn timed_iter(i: &Input, want: u32, _: &mut Worst) -> bool {
-    let mut r = [[HELD; 18]; 3];
-    let (mut h, mut d, mut s, mut ns) = (HELD, HELD, 77, 78);
-    let [a, b, c] = &mut r;
+impl After {
+    fn new() -> After {
+        After { feet: [HELD; 18], rows: [[HELD; 18]; 3], two: [HELD; 2], period: NO_TIME, mark: NO_MARK }
+    }
+    fn is_held(&self) -> bool {
+        held(&self.feet) && held(self.rows.as_flattened()) && held(&self.two) && self.period == NO_TIME && self.mark == NO_MARK
+    }
+    /// The state is that of i, but for start, last, target and the place of the two floats.
+    fn is_state(&self, i: &Input, pace: Pace, rows: [&[f32]; 3], two: &[f32]) -> bool {
+        let period = if pace == Pace::Distance { NO_TIME } else { i.period };
+        let mark = 256 * i.tripod + 512 * i.aggressive;
+        self.mark == mark && self.period == period && same(&self.two, two) && (0..3).all(|k| same(&self.rows[k], rows[k]))
+    }
+    /// The next call on this state.
+    fn again(&self, i: &Input, pace: Pace) -> Input {
+        let mut next = *i;
+        next.f[..54].copy_from_slice(self.rows.as_flattened());
+        next.f[54..56].copy_from_slice(&self.two);
+        (next.tripod, next.aggressive, next.elapsed) = (self.mark >> 8 & 1, self.mark >> 9 & 1, i.later);
+        if pace != Pace::Distance {
+            next.period = self.period;
+        }
+        next
+    }
+}
+
+/// A state sets out, and steps once.
+fn set_out(i: &Input, want: u32, pace: Pace, w: &mut Worst) -> bool {
+    let mut a = After::new();
+    let (s, t, l, p) = (i.at(0), i.tripod, i.aggressive, i.period);
+    let After { rows: [o, q, r], two: [x, y], period: e, .. } = &mut a;
+    let (o, q, r) = (o.as_mut_ptr(), q.as_mut_ptr(), r.as_mut_ptr());
     let n = unsafe {
-        probe_timed_iter(i.at(0), 38, i.tripod, i.aggressive, i.period.s, i.period.ns, a.as_mut_ptr(), 18, b.as_mut_ptr(), 18, c.as_mut_ptr(), 18, &mut h, &mut d, &mut s, &mut ns)
+        match pace {
+            Pace::Distance => probe_step_iter(s, 38, t, l, o, 18, q, 18, r, 18, x, y),
+            Pace::Timed => probe_timed_iter(s, 38, t, l, p.s, p.ns, o, 18, q, 18, r, 18, x, y, &mut e.s, &mut e.ns),
+            Pace::Even => probe_even_iter(s, 38, t, l, p.s, p.ns, o, 18, q, 18, r, 18, x, y, &mut e.s, &mut e.ns),
+        }
     };
-    set_out(i, n, want, &r, &[h, d]) && (s, ns) == if want == 0 { (i.period.s, i.period.ns) } else { (77, 78) }
+    if want != 0 {
+        return n == want && a.is_held();
+    }
+    a.mark = n;
+    let next = a.again(i, pace);
+    a.is_state(i, pace, [&i.f[..18], &i.f[..18], &i.f[18..36]], &i.f[36..38]) && turn(&next, step_refusal(&next, pace), pace, w).is_some()
 }
 
-fn even_iter(i: &Input, want: u32, _: &mut Worst) -> bool {
-    let mut r = [[HELD; 18]; 3];
-    let (mut h, mut d, mut s, mut ns) = (HELD, HELD, 77, 78);
-    let [a, b, c] = &mut r;
-    let n = unsafe {
-        probe_even_iter(i.at(0), 38, i.tripod, i.aggressive, i.period.s, i.period.ns, a.as_mut_ptr(), 18, b.as_mut_ptr(), 18, c.as_mut_ptr(), 18, &mut h, &mut d, &mut s, &mut ns)
-    };
-    set_out(i, n, want, &r, &[h, d]) && (s, ns) == if want == 0 { (i.period.s, i.period.ns) } else { (77, 78) }
-}
-
+/// One call on a state, which goes on at the later time; none where the answer is wrong.
 /// To the bit over the library's sine; over Rust's, x and y to the bit and z within 2^-19 m.
-fn stepped(n: u32, want: u32, out: &[f32], c: &Course, lift: &Lift, progress: f32, w: &mut Worst) -> bool {
-    if want != 0 {
-        return n == want && held(out);
-    }
-    let (Some(ours), Some(rust)) = (step::<Ours>(c, lift, progress), step::<Rust>(c, lift, progress)) else {
-        return n == 0 && held(out);
+fn turn(i: &Input, want: u32, pace: Pace, w: &mut Worst) -> Option<Input> {
+    let mut a = After::new();
+    let (s, t, l, e, p) = (i.at(0), i.tripod, i.aggressive, i.elapsed, i.period);
+    let After { feet: out, rows: [o, q, r], two: [x, y], period: b, mark: m } = &mut a;
+    let (out, o, q, r) = (out.as_mut_ptr(), o.as_mut_ptr(), q.as_mut_ptr(), r.as_mut_ptr());
+    let n = unsafe {
+        match pace {
+            Pace::Distance => probe_next_step(s, 56, t, l, out, 18, o, 18, q, 18, r, 18, x, y, m),
+            Pace::Timed => probe_next_timed(s, 56, t, l, e.s, e.ns, p.s, p.ns, out, 18, o, 18, q, 18, r, 18, x, y, &mut b.s, &mut b.ns, m),
+            Pace::Even => probe_next_even(s, 56, t, l, e.s, e.ns, p.s, p.ns, out, 18, o, 18, q, 18, r, 18, x, y, &mut b.s, &mut b.ns, m),
+        }
     };
-    let rust = rust.as_flattened();
-    n == 256 && is_at(out, &ours) && (0..18).all(|k| if k % 3 == 2 { w.near(out[k], rust[k], 1.0 / 524288.0) } else { out[k].to_bits() == rust[k].to_bits() })
+    let stays = Input { elapsed: i.later, ..*i };
+    if want != 0 {
+        return (n == want && a.is_held()).then_some(stays);
+    }
+    let (lift, progress) = lift_and_progress(i, pace);
+    let c = i.course();
+    let (Some(ours), Some(rust)) = (step::<Ours>(&c, &lift, progress), step::<Rust>(&c, &lift, progress)) else {
+        return (n == 0 && a.is_held()).then_some(stays);
+    };
+    let (out, rust) = (&a.feet, rust.as_flattened());
+    let near = (0..18).all(|k| if k % 3 == 2 { w.near(out[k], rust[k], 1.0 / 524288.0) } else { out[k].to_bits() == rust[k].to_bits() });
+    let state = a.is_state(i, pace, [&i.f[..18], ours.as_flattened(), &i.f[36..54]], &i.f[54..56]);
+    (n == 256 && is_at(out, &ours) && near && state).then(|| a.again(i, pace))
+}
+
+/// Two calls, the second on the state that the first left.
+fn turns(i: &Input, want: u32, pace: Pace, w: &mut Worst) -> bool {
+    turn(i, want, pace, w).is_some_and(|next| want != 0 || turn(&next, step_refusal(&next, pace), pace, w).is_some())
+}
+
+fn step_iter(i: &Input, want: u32, w: &mut Worst) -> bool {
+    set_out(i, want, Pace::Distance, w)
+}
+
+fn timed_iter(i: &Input, want: u32, w: &mut Worst) -> bool {
+    set_out(i, want, Pace::Timed, w)
+}
+
+fn even_iter(i: &Input, want: u32, w: &mut Worst) -> bool {
+    set_out(i, want, Pace::Even, w)
 }
 
 fn step_by_distance(i: &Input, want: u32, w: &mut Worst) -> bool {
-    let mut out = [HELD; 18];
-    let n = unsafe { probe_step(i.at(0), 56, i.tripod, i.aggressive, out.as_mut_ptr(), 18) };
-    let c = i.course();
-    let lift = Lift { height: i.f[55], descent: 0.0, tripod: i.tripod, aggressive: i.aggressive != 0 };
-    stepped(n, want, &out, &c, &lift, progress_by_distance(&c, i.f[54]), w)
-}
-
-fn lift(i: &Input) -> Lift {
-    Lift { height: i.f[54], descent: i.f[55], tripod: i.tripod, aggressive: i.aggressive != 0 }
+    turns(i, want, Pace::Distance, w)
 }
 
 fn timed_step(i: &Input, want: u32, w: &mut Worst) -> bool {
-    let mut out = [HELD; 18];
-    let (e, p) = (i.elapsed, i.period);
-    let n = unsafe { probe_timed_step(i.at(0), 56, i.tripod, i.aggressive, e.s, e.ns, p.s, p.ns, out.as_mut_ptr(), 18) };
-    stepped(n, want, &out, &i.course(), &lift(i), timed_progress(e, p), w)
+    turns(i, want, Pace::Timed, w)
 }
 
 fn even_step(i: &Input, want: u32, w: &mut Worst) -> bool {
-    let mut out = [HELD; 18];
-    let (e, p) = (i.elapsed, i.period);
-    let n = unsafe { probe_even_step(i.at(0), 56, i.tripod, i.aggressive, e.s, e.ns, p.s, p.ns, out.as_mut_ptr(), 18) };
-    stepped(n, want, &out, &i.course(), &lift(i), even_progress(e, p), w)
+    turns(i, want, Pace::Even, w)
 }
 
 /// To the bit over the library's functions; over Rust's, z to the bit, lifted feet within 2^-12 m, standing ones where they turn well.
@@ -438,9 +565,12 @@ fn forward_kinematics(i: &Input, want: u32, w: &mut Worst) -> bool {
 /// What an entry takes besides floats.
 #[derive(Clone, Copy, Default)]
 pub struct Takes {
+    /// Every float, and it refuses nothing.
+    pub any: bool,
     pub mask: bool,
     pub count: bool,
-    pub lift: bool,
+    pub tripod: bool,
+    pub flag: bool,
     pub elapsed: bool,
     pub period: bool,
 }
@@ -459,7 +589,10 @@ impl Entry {
     /// The lowest number that applies, 6 apart.
     pub fn refusal(&self, i: &Input) -> u32 {
         let t = &self.takes;
-        let n = if t.count { 18 + 3 * i.count.min(8) } else { self.rows.len() };
+        if t.any {
+            return 0;
+        }
+        let n = if t.count { 18 + 3 * i.count.min(64) } else { self.rows.len() };
         let first = floats(&self.rows[..n], &i.f);
         if first != 0 {
             first
@@ -478,15 +611,16 @@ impl Entry {
 pub fn entries() -> Vec<Entry> {
     let of = |parts: &[(usize, Row)]| parts.iter().flat_map(|&(n, row)| vec![row; n]).collect::<Vec<Row>>();
     let none = Takes::default();
+    let any = Takes { any: true, ..none };
     let mask = Takes { mask: true, ..none };
-    let lift = Takes { lift: true, ..none };
-    let period = Takes { lift: true, period: true, ..none };
+    let lift = Takes { tripod: true, flag: true, ..none };
+    let asked = Takes { flag: true, period: true, ..none };
+    let period = Takes { tripod: true, ..asked };
     let times = Takes { elapsed: true, period: true, ..none };
-    let both = Takes { lift: true, ..times };
-    let one = [(6, FOOT), (1, MAX_MOVE)];
-    let six = [(36, FOOT), (1, MAX_MOVE)];
+    let both = Takes { elapsed: true, ..period };
+    let one = || move_rows::<7>().to_vec();
+    let six = || move_rows::<37>().to_vec();
     let told = [(2, DIRECTION), (1, ROTATION), (1, DIRECTION)];
-    let course = [(54, FOOT), (2, DIRECTION)];
     let configuration = || {
         let leg = [(3, FOOT), (1, ROTATION), (2, CORRECTION)];
         [of(&[(3, LENGTH), (2, OFFSET)]), of(&leg), of(&leg), of(&leg), of(&leg), of(&leg), of(&leg)].concat()
@@ -499,30 +633,32 @@ pub fn entries() -> Vec<Entry> {
         entry("min", of(&[(2, FINITE)]), none, false, &[(0, 1, 1)], min as Check),
         entry("max", of(&[(2, FINITE)]), none, false, &[(0, 1, 1)], max),
         entry("atan2", of(&[(2, ATAN2)]), none, false, &[(0, 1, 1)], atan2),
+        entry("as legs", of(&[(18, FINITE)]), any, false, &[], as_legs),
+        entry("from legs", of(&[(18, FINITE)]), any, false, &[], from_legs),
         entry("merge", of(&[(36, FOOT)]), mask, false, rows, merge),
         entry("select", of(&[(18, FOOT)]), mask, false, &[], select),
-        entry("update", of(&[(42, FOOT)]), Takes { count: true, ..mask }, false, &[], update),
-        entry("one move", of(&one), none, false, pair, move_point),
-        entry("vector move", of(&one), none, false, pair, move_vector),
-        entry("point sets out", of(&one), none, false, pair, point_iter),
-        entry("next point", of(&one), none, false, pair, next_point),
+        entry("update", of(&[(210, FOOT)]), Takes { count: true, ..mask }, false, &[], update),
+        entry("one move", one(), none, false, pair, move_point),
+        entry("vector move", one(), none, false, pair, move_vector),
+        entry("point sets out", one(), none, false, pair, point_iter),
+        entry("next point", one(), none, false, pair, next_point),
         entry("longest distance", of(&[(36, FOOT)]), none, false, rows, longest_distance),
         entry("new command", of(&told[..2]), none, false, &[], new),
-        entry("command, all fields", of(&told), period, false, &[], command),
-        entry("should move", of(&told), period, false, &[], should_move),
+        entry("command, all fields", of(&told), asked, false, &[], command),
+        entry("should move", of(&told), asked, false, &[], should_move),
         entry("timed progress", vec![], times, false, &[], timed),
         entry("even progress", vec![], times, false, &[], even),
-        entry("six moves", of(&six), none, true, rows, move_feet),
-        entry("feet set out", of(&six), none, true, rows, feet_iter),
-        entry("next feet", of(&six), none, true, rows, next_feet),
+        entry("six moves", six(), none, true, rows, move_feet),
+        entry("feet set out", six(), none, true, rows, feet_iter),
+        entry("next feet", six(), none, true, rows, next_feet),
         entry("walk", of(&[(6, WALK), (1, WALK_MOVE)]), none, true, pair, one_walk),
         entry("six walks", of(&[(36, WALK), (1, WALK_MOVE)]), none, true, rows, six_walks),
         entry("step sets out", of(&[(36, FOOT), (1, MAX_MOVE), (1, DIRECTION)]), lift, true, rows, step_iter),
         entry("timed sets out", of(&[(36, FOOT), (2, DIRECTION)]), period, true, rows, timed_iter),
         entry("even sets out", of(&[(36, FOOT), (2, DIRECTION)]), period, true, rows, even_iter),
-        entry("step by distance", of(&[(54, FOOT), (1, MAX_MOVE), (1, DIRECTION)]), lift, true, three, step_by_distance),
-        entry("timed step", of(&course), both, true, three, timed_step),
-        entry("even step", of(&course), both, true, three, even_step),
+        entry("step by distance", step_rows(Pace::Distance).to_vec(), lift, true, three, step_by_distance),
+        entry("timed step", step_rows(Pace::Timed).to_vec(), both, true, three, timed_step),
+        entry("even step", step_rows(Pace::Even).to_vec(), both, true, three, even_step),
         entry("planner", [of(&[(36, FOOT)]), of(&told)].concat(), period, true, rows, planner),
         entry("inverse kinematics", [of(&[(18, FOOT)]), configuration()].concat(), none, true, &[], inverse_kinematics),
         entry("forward kinematics", [of(&[(18, MOTOR)]), configuration()].concat(), none, true, &[], forward_kinematics),

@@ -1,5 +1,5 @@
-// Runs every entry of the proved library: special values in each position and each pair of positions (all positions at
-// once where there are few), every mask, count, tripod, flag and time that is special, and random calls.
+// Runs every entry of the proved library: special values in several argument positions at once (`whole` says how many), in
+// all of them where there are few, then random calls.
 // Usage: every CHEAP COSTLY [ENTRY]. A line an entry; the last line has the inputs tried and the failures.
 mod entries;
 mod judge;
@@ -57,31 +57,110 @@ fn special(row: Row) -> Vec<f32> {
     all
 }
 
+/// Sixteen of them: zeros, a subnormal of either sign, ends, one ulp past and short of them, NaNs, infinities, a plain value.
+fn few(row: Row) -> Vec<f32> {
+    let mut all: Vec<f32> = [0, 0x8000_0000, 1, 0x807f_ffff, 0x7f80_0000, 0xff80_0000, 0x7f80_0001, 0x7fc0_0000, 0xffc0_0000].map(f32::from_bits).to_vec();
+    for end in [row.0, row.1] {
+        all.extend([end, neighbour(end, true), neighbour(end, false)]);
+    }
+    if row.0 == 0.0 {
+        all.push(-f32::from_bits(1));
+    }
+    all.push(row.0 * 0.3 + row.1 * 0.7);
+    all.sort_by_key(|x| x.to_bits());
+    all.dedup_by_key(|x| x.to_bits());
+    all
+}
+
 fn permits(row: Row, x: f32) -> bool {
     row.0 <= x && x <= row.1
 }
 
-fn masks() -> Vec<u32> {
-    (0..=80).chain([127, 128, 255, 256, 0x8000_0000, u32::MAX - 63, u32::MAX]).collect()
+/// An argument position.
+#[derive(Clone, Copy)]
+enum Place {
+    Float(usize),
+    Mask,
+    Count,
+    Tripod,
+    Flag,
+    Elapsed,
+    Period,
 }
 
-fn times() -> Vec<Time> {
-    let mut all = vec![];
-    // 18446744074 s are 0.29 s in 64 bits of nanoseconds
-    for s in [0, 1, 2, 59, 60, 61, 3599, 3600, 3601, 1 << 24, u32::MAX as u64, 1 << 32, (1 << 32) + 1, 18446744073, 18446744074, 1 << 63, u64::MAX] {
-        for ns in [0, 1, 999_999, 1_000_000, 1_000_001, 16_777_217, 500_000_000, 999_999_999, 1_000_000_000, u32::MAX] {
-            all.push(Time { s, ns });
+/// The special values of each position.
+struct Lists {
+    floats: Vec<Vec<f32>>,
+    masks: Vec<u32>,
+    counts: Vec<usize>,
+    elapsed: Vec<Time>,
+    period: Vec<Time>,
+}
+
+impl Lists {
+    fn wide(rows: &[Row]) -> Lists {
+        let mut times = vec![];
+        // 18446744074 s are 0.29 s in 64 bits of nanoseconds
+        for s in [0, 1, 2, 59, 60, 61, 3599, 3600, 3601, 1 << 24, u32::MAX as u64, 1 << 32, (1 << 32) + 1, 18446744073, 18446744074, 1 << 63, u64::MAX] {
+            for ns in [0, 1, 999_999, 1_000_000, 1_000_001, 16_777_217, 500_000_000, 999_999_999, 1_000_000_000, u32::MAX] {
+                times.push(Time { s, ns });
+            }
+        }
+        Lists {
+            floats: rows.iter().map(|&r| special(r)).collect(),
+            masks: (0..=80).chain([127, 128, 255, 256, 0x8000_0000, u32::MAX - 63, u32::MAX]).collect(),
+            counts: (0..=66).chain([usize::MAX]).collect(),
+            elapsed: times.clone(),
+            period: times,
         }
     }
-    all
+
+    fn few(rows: &[Row]) -> Lists {
+        let times = |all: &[(u64, u32)]| all.iter().map(|&(s, ns)| Time { s, ns }).collect();
+        let (last, over) = (999_999_999, 1_000_000_000);
+        Lists {
+            floats: rows.iter().map(|&r| few(r)).collect(),
+            masks: vec![0, 1, 21, 32, 42, 62, 63, 64, 65, 127, 256, 0x8000_0000, u32::MAX - 63, u32::MAX],
+            counts: (0..=7).chain([8, 63, 64, 65, usize::MAX]).collect(),
+            elapsed: times(&[(0, 0), (0, 1), (0, last), (0, over), (0, u32::MAX), (1, 0), (3600, 0), (3600, last), (3600, over), (3601, 0), (1 << 32, 0), (u64::MAX, 0)]),
+            period: times(&[
+                (0, 0), (0, 999_999), (0, 1_000_000), (0, 1_000_001), (0, 500_000_000), (0, over), (0, u32::MAX), (1, 0), (59, last), (59, over), (60, 0), (60, 1), (61, 0), (18446744074, 0), (u64::MAX, 0),
+            ]),
+        }
+    }
+
+    fn len(&self, place: Place) -> usize {
+        match place {
+            Place::Float(k) => self.floats[k].len(),
+            Place::Mask => self.masks.len(),
+            Place::Count => self.counts.len(),
+            Place::Tripod | Place::Flag => 2,
+            Place::Elapsed => self.elapsed.len(),
+            Place::Period => self.period.len(),
+        }
+    }
+
+    fn put(&self, place: Place, at: usize, input: &mut Input) {
+        match place {
+            Place::Float(k) => input.f[k] = self.floats[k][at],
+            Place::Mask => input.mask = self.masks[at],
+            Place::Count => input.count = self.counts[at],
+            Place::Tripod => input.tripod = at as u32,
+            Place::Flag => input.aggressive = at as u32,
+            Place::Elapsed => input.elapsed = self.elapsed[at],
+            Place::Period => input.period = self.period[at],
+        }
+    }
 }
 
 struct Run {
     entry: Entry,
-    special: Vec<Vec<f32>>,
+    /// All special values, and the fewer that are taken in more positions at once.
+    wide: Lists,
+    few: Lists,
     permitted: Vec<Vec<f32>>,
-    masks: Vec<u32>,
-    times: Vec<Time>,
+    floats: Vec<Place>,
+    others: Vec<Place>,
     input: Input,
     random: Random,
     tried: u64,
@@ -92,22 +171,30 @@ struct Run {
 
 impl Run {
     fn new(entry: Entry) -> Run {
-        let special: Vec<Vec<f32>> = entry.rows.iter().map(|&r| special(r)).collect();
-        let permitted = entry.rows.iter().zip(&special).map(|(&r, all)| all.iter().copied().filter(|&x| permits(r, x)).collect()).collect();
+        let wide = Lists::wide(&entry.rows);
+        let permitted = entry.rows.iter().zip(&wide.floats).map(|(&r, all)| all.iter().copied().filter(|&x| permits(r, x)).collect()).collect();
         let none = Time { s: 0, ns: 0 };
+        let t = entry.takes;
+        let others = [(t.mask, Place::Mask), (t.count, Place::Count), (t.tripod, Place::Tripod), (t.flag, Place::Flag), (t.elapsed, Place::Elapsed), (t.period, Place::Period)];
         Run {
-            input: Input { f: [0.0; 64], mask: 0, count: 0, tripod: 0, aggressive: 0, elapsed: none, period: none },
+            input: Input { f: [0.0; 210], mask: 0, count: 0, tripod: 0, aggressive: 0, elapsed: none, later: none, period: none },
             random: Random(0x9e37_79b9_7f4a_7c15),
-            masks: masks(),
-            times: times(),
+            few: Lists::few(&entry.rows),
+            floats: (0..entry.rows.len()).map(Place::Float).collect(),
+            others: others.iter().filter(|o| o.0).map(|o| o.1).collect(),
             tried: 0,
             answered: 0,
             failed: 0,
             worst: Worst(0.0),
             entry,
-            special,
+            wide,
             permitted,
         }
+    }
+
+    /// How many of the floats the entry is given: of an update's points those that are lent.
+    fn used(&self) -> usize {
+        if self.entry.takes.count { 18 + 3 * self.input.count.min(64) } else { self.entry.rows.len() }
     }
 
     fn call(&mut self) {
@@ -141,15 +228,23 @@ impl Run {
         row.0 * (1.0 - part) + row.1 * part
     }
 
-    /// Permitted everything.
+    /// A permitted elapsed time, mostly within the period.
+    fn draw_elapsed(&mut self) -> Time {
+        let r = self.random.next();
+        let most = if r & 3 == 0 { 3_600_999_999_999 } else { self.input.period.s * 1_000_000_000 + self.input.period.ns as u64 };
+        let all = if r & 60 == 0 { most / 2 } else { (r >> 8) % (most + 1) };
+        Time { s: all / 1_000_000_000, ns: (all % 1_000_000_000) as u32 }
+    }
+
+    /// Permitted everything; of an update's points those that are lent.
     fn draw_all(&mut self) {
-        for k in 0..self.entry.rows.len() {
-            self.input.f[k] = self.draw(k);
-        }
         let (takes, r) = (self.entry.takes, self.random.next());
         if takes.mask {
             self.input.mask = r as u32 & 63;
             self.input.count = self.input.mask.count_ones() as usize;
+        }
+        for k in 0..self.used() {
+            self.input.f[k] = self.draw(k);
         }
         self.input.tripod = (r >> 6) as u32 & 1;
         self.input.aggressive = (r >> 7) as u32 & 1;
@@ -157,12 +252,25 @@ impl Run {
             let all = 1_000_000 + (r >> 8) % 59_999_000_001;
             let all = if r & 32 == 0 { all / 32 + 968_750 } else { all };
             self.input.period = Time { s: all / 1_000_000_000, ns: (all % 1_000_000_000) as u32 };
+            self.input.elapsed = self.draw_elapsed();
+            self.input.later = self.draw_elapsed();
         }
-        if takes.elapsed {
-            let r = self.random.next();
-            let most = if r & 3 == 0 { 3_600_999_999_999 } else { self.input.period.s * 1_000_000_000 + self.input.period.ns as u64 };
-            let all = if r & 60 == 0 { most / 2 } else { (r >> 8) % (most + 1) };
-            self.input.elapsed = Time { s: all / 1_000_000_000, ns: (all % 1_000_000_000) as u32 };
+    }
+
+    /// Lends the point that has float k: as many as the mask has ones where that suffices, else any number; the points permitted.
+    fn lend(&mut self, k: usize) {
+        let need = (k.max(17) - 17).div_ceil(3);
+        let r = self.random.next();
+        if need <= 6 && r & 3 != 0 {
+            while (self.input.mask.count_ones() as usize) < need || self.input.mask > 63 {
+                self.input.mask = self.random.next() as u32 & 63;
+            }
+            self.input.count = self.input.mask.count_ones() as usize;
+        } else {
+            self.input.count = need + self.random.below(65 - need);
+        }
+        for k in 18..18 + 3 * self.input.count {
+            self.input.f[k] = self.draw(k);
         }
     }
 
@@ -194,7 +302,7 @@ impl Run {
 
     /// Half of the floats that may be zero are, of either sign.
     fn zeros(&mut self) {
-        for k in 0..self.entry.rows.len() {
+        for k in 0..self.used() {
             let r = self.random.next();
             if r & 32 == 0 && permits(self.entry.rows[k], 0.0) {
                 self.input.f[k] = if r & 64 == 0 { 0.0 } else { -0.0 };
@@ -229,20 +337,27 @@ impl Run {
         }
     }
 
-    /// Every way to put special values into k positions at once, the other positions permitted.
-    fn specials(&mut self, k: usize) {
-        let n = self.entry.rows.len();
+    fn lists(&self, wide: bool) -> &Lists {
+        if wide { &self.wide } else { &self.few }
+    }
+
+    /// Permitted points wherever an update may lend one.
+    fn draw_lent(&mut self) {
+        if self.entry.takes.count {
+            for k in 18..self.entry.rows.len() {
+                self.input.f[k] = self.draw(k);
+            }
+        }
+    }
+
+    /// Every way to put special values into k of these positions at once, what else there is permitted.
+    fn specials(&mut self, k: usize, places: &[Place], wide: bool) {
+        let n = places.len();
         let mut at: Vec<usize> = (0..k).collect();
         loop {
-            let sizes: Vec<usize> = at.iter().map(|&p| self.special[p].len()).collect();
-            for mut code in 0..sizes.iter().product() {
-                self.draw_all();
-                for (p, size) in at.iter().zip(&sizes) {
-                    self.input.f[*p] = self.special[*p][code % size];
-                    code /= size;
-                }
-                self.call();
-            }
+            let chosen: Vec<Place> = at.iter().map(|&p| places[p]).collect();
+            self.draw_lent();
+            self.product(&chosen, wide);
             let Some(j) = (0..k).rev().find(|&j| at[j] < n - k + j) else { return };
             at[j] += 1;
             for m in j + 1..k {
@@ -251,49 +366,83 @@ impl Run {
         }
     }
 
-    /// Every special mask, count, tripod, flag and time, with permitted floats and with each special value somewhere.
-    fn others(&mut self) {
-        let t = self.entry.takes;
-        let masks = if t.mask { self.masks.clone() } else { vec![0] };
-        let counts: Vec<usize> = if t.count { (0..=66).chain([usize::MAX]).collect() } else { vec![0] };
-        let one = [Time { s: 0, ns: 0 }];
-        let elapsed = if t.elapsed { self.times.clone() } else { one.to_vec() };
-        let period = if t.period { self.times.clone() } else { one.to_vec() };
-        for mask in &masks {
-            for count in &counts {
-                for e in &elapsed {
-                    for p in &period {
-                        for lift in 0..if t.lift { 4 } else { 1 } {
-                            for floats in 0..3 {
-                                self.draw_all();
-                                if t.mask {
-                                    (self.input.mask, self.input.count) = (*mask, if t.count { *count } else { 0 });
-                                }
-                                if t.elapsed {
-                                    self.input.elapsed = *e;
-                                }
-                                if t.period {
-                                    self.input.period = *p;
-                                }
-                                if t.lift {
-                                    (self.input.tripod, self.input.aggressive) = (lift & 1, lift >> 1);
-                                }
-                                if floats > 0 && !self.special.is_empty() {
-                                    let k = self.random.below(self.special.len());
-                                    self.input.f[k] = self.random.of(&self.special[k]);
-                                }
-                                self.call();
-                            }
-                        }
-                    }
+    /// Whether this is a walk in which a coordinate is more than 256 moves from its target.
+    fn is_long(&self) -> bool {
+        let (f, half) = (&self.input.f, self.entry.rows.len() / 2);
+        let far = || f[2 * half] < 0.01 && (0..half).any(|k| (f[half + k] - f[k]).abs() > 256.0 * f[2 * half]);
+        self.entry.rows.last() == Some(&WALK_MOVE) && far() && self.entry.refusal(&self.input) == 0
+    }
+
+    /// All special values in these positions at once, of long walks one in eight. What else there is is drawn anew for every
+    /// sixteenth call.
+    fn product(&mut self, places: &[Place], wide: bool) {
+        let all = places.len() == self.floats.len() + self.others.len();
+        let last = places.iter().filter_map(|p| if let Place::Float(k) = p { Some(*k) } else { None }).max().unwrap_or(0);
+        let sizes: Vec<usize> = places.iter().map(|&p| self.lists(wide).len(p)).collect();
+        let mut digits = vec![0; places.len()];
+        for turn in 0u64.. {
+            if turn == 0 || (turn % 16 == 0 && !all) {
+                self.draw_all();
+                if self.entry.takes.count {
+                    self.lend(last);
                 }
+                let lists = if wide { &self.wide } else { &self.few };
+                places.iter().zip(&digits).for_each(|(&p, &d)| lists.put(p, d, &mut self.input));
+            }
+            if !self.is_long() || self.random.next() >> 61 == 0 {
+                self.call();
+            }
+            if !self.advance(places, &sizes, &mut digits, wide) {
+                return;
+            }
+        }
+    }
+
+    /// The next combination of special values, if there is one.
+    fn advance(&mut self, places: &[Place], sizes: &[usize], digits: &mut [usize], wide: bool) -> bool {
+        let lists = if wide { &self.wide } else { &self.few };
+        for j in 0..places.len() {
+            digits[j] = if digits[j] + 1 == sizes[j] { 0 } else { digits[j] + 1 };
+            lists.put(places[j], digits[j], &mut self.input);
+            if digits[j] != 0 {
+                return true;
+            }
+        }
+        false
+    }
+
+    /// Every special mask, count, tripod, flag and time at once, with permitted floats, and with special values among them:
+    /// each in each position, or else two somewhere.
+    fn combined(&mut self, each: bool) {
+        let places = self.others.clone();
+        let sizes: Vec<usize> = places.iter().map(|&p| self.wide.len(p)).collect();
+        let mut digits = vec![0; places.len()];
+        loop {
+            self.draw_all();
+            self.draw_lent();
+            places.iter().zip(&digits).for_each(|(&p, &d)| self.wide.put(p, d, &mut self.input));
+            self.call();
+            let n = self.used();
+            let some: Vec<usize> = if each { (0..n).collect() } else { (0..n.min(2)).map(|_| self.random.below(n)).collect() };
+            for k in some {
+                let held = self.input.f[k];
+                let from = if each { 0 } else { self.random.below(self.few.floats[k].len()) };
+                let to = if each { self.few.floats[k].len() } else { from + 1 };
+                for v in from..to {
+                    self.input.f[k] = self.few.floats[k][v];
+                    self.call();
+                }
+                self.input.f[k] = held;
+            }
+            if !self.advance(&places, &sizes, &mut digits, true) {
+                return;
             }
         }
     }
 
     fn random_call(&mut self) {
         self.draw_all();
-        let (n, r) = (self.entry.rows.len(), self.random.next());
+        let (n, r) = (self.used(), self.random.next());
         if r & 3 == 0 {
             self.twin();
         }
@@ -306,17 +455,21 @@ impl Run {
             4..=6 if n > 0 => {
                 for _ in 0..2 {
                     let k = self.random.below(n);
-                    self.input.f[k] = self.random.of(&self.special[k]);
+                    self.input.f[k] = self.random.of(&self.wide.floats[k]);
                 }
             }
             7 => self.input.mask = self.random.next() as u32,
-            8 => self.input.count = self.random.below(9),
+            8 => {
+                self.input.count = self.random.below(67);
+                (n..self.used()).for_each(|k| self.input.f[k] = self.draw(k));
+            }
             9 => self.input.period = Time { s: self.random.next() >> (r >> 16 & 63), ns: self.random.next() as u32 },
             10 => self.input.elapsed = Time { s: self.random.next() >> (r >> 16 & 63), ns: self.random.next() as u32 },
-            11 => (self.input.elapsed, self.input.period) = (self.random.of(&self.times), self.random.of(&self.times)),
-            12 => self.input.mask = self.random.of(&self.masks),
+            11 => (self.input.elapsed, self.input.period) = (self.random.of(&self.wide.elapsed), self.random.of(&self.wide.period)),
+            12 => self.input.mask = self.random.of(&self.wide.masks),
             13 => self.zeros(),
             14 if self.entry.name == "step by distance" => self.half_way(),
+            15 => self.input.later = self.random.of(&self.wide.elapsed),
             _ => (),
         }
         self.call();
@@ -351,17 +504,28 @@ fn report(name: &str, tried: u64, permitted: u64, failed: u64, note: String) {
     println!("{name:20} {tried:>12} inputs, {permitted:>11} of them permitted, {failed} failures{note}");
 }
 
-/// All that is tried of an entry.
+/// All that is tried of an entry. Special values: in all positions at once where there are four or fewer; where there are up
+/// to seven, in four at once, and fewer of them in all; where there are more, in two at once, and fewer of them in three. A
+/// short run takes less: up to four of seven, two of more; a shorter one up to two of seven, one of more.
 fn whole(entry: Entry, cheap: u64, costly: u64) -> Run {
     let mut run = Run::new(entry);
-    let n = run.entry.rows.len();
-    let together = match n {
-        0..=4 => n,
-        5..=7 => 4,
-        _ => 2,
+    let depth = (cheap >= 1_000_000) as usize + (cheap >= 100_000_000) as usize;
+    let mut places = [run.floats.clone(), run.others.clone()].concat();
+    let together = match places.len() {
+        0..=4 => places.len(),
+        5..=7 => [2, 4, 4][depth],
+        _ => [1, 2, 2][depth],
     };
-    (1.min(together)..=together).for_each(|k| run.specials(k));
-    run.others();
+    (1..=together).for_each(|k| run.specials(k, &places, true));
+    if depth == 2 && places.len() > 4 {
+        let most = if places.len() > 7 { 3 } else { places.len() };
+        // of 64 lent points the first eight
+        if run.entry.takes.count {
+            places.retain(|p| !matches!(p, Place::Float(42..)));
+        }
+        run.specials(most, &places, false);
+    }
+    run.combined(depth == 2);
     for _ in 0..if run.entry.costly { costly } else { cheap } {
         run.random_call();
     }

@@ -4,6 +4,7 @@ use hopper::legs::Planned;
 use hopper::legs::Point;
 use hopper::legs::Selected;
 ghost use Prim.Native.Nat.{_≤_};
+ghost use lib.ListN.{length};
 
 fn planned(p: Planned, out: &mut [f32]) -> u32 {
     match p {
@@ -50,35 +51,54 @@ pub extern "C" fn probe_select(s: &[f32], mask: u32, out: &mut [f32], len: &mut 
     }
 }
 
-// Point i of a row of floats, +0 past its end.
-fn at(s: &[f32], i: usize) -> Point
-    requires { ⌜ i ≤ 7 ⌝ }
-{
-    if 3 * i + 3 <= s.len() {
-        feet::point(s, 3 * i)
+// The feet of 18 floats as a row of six, stored in its order.
+#[no_mangle]
+pub extern "C" fn probe_as_legs(s: &[f32], out: &mut [f32]) -> u32 {
+    if s.len() < 18 {
+        return 99;
+    }
+    if out.len() < 18 {
+        return 99;
+    }
+    let row = hopper::legs::as_legs(feet::feet(s, 0));
+    feet::store_three(row[0], row[1], row[2], out, 0);
+    feet::store_three(row[3], row[4], row[5], out, 9);
+    0
+}
+
+// A row of six points in their order, and its feet out.
+#[no_mangle]
+pub extern "C" fn probe_from_legs(s: &[f32], out: &mut [f32]) -> u32 {
+    if s.len() < 18 {
+        return 99;
+    }
+    let mut row = [feet::point(s, 0); 6];
+    row[1] = feet::point(s, 3);
+    row[2] = feet::point(s, 6);
+    row[3] = feet::point(s, 9);
+    row[4] = feet::point(s, 12);
+    row[5] = feet::point(s, 15);
+    if feet::store_feet(hopper::legs::from_legs(row), out) {
+        0
     } else {
-        Point {
-            x: 0.0,
-            y: 0.0,
-            z: 0.0,
-        }
+        99
     }
 }
 
-// 64 points: the first eight of a row of floats, then the first again and again.
-fn lent(s: &[f32]) -> [Point; 64] {
-    let mut values = [at(s, 0); 64];
-    values[1] = at(s, 1);
-    values[2] = at(s, 2);
-    values[3] = at(s, 3);
-    values[4] = at(s, 4);
-    values[5] = at(s, 5);
-    values[6] = at(s, 6);
-    values[7] = at(s, 7);
+// The 64 points of a row of floats.
+fn lent(s: &[f32]) -> [Point; 64]
+    requires { ⌜ 192 ≤ length (now s) ⌝ }
+{
+    let mut values = [feet::point(s, 0); 64];
+    let mut i = 1;
+    while i < 64 {
+        values[i] = feet::point(s, 3 * i);
+        i += 1;
+    }
     values
 }
 
-// A row of 18 floats and eight points in, the points lent as above, the first n of 64; 18 floats out.
+// A row of 18 floats and 64 points in, the first n of the points lent, all of them where n is more; 18 floats out.
 #[no_mangle]
 pub extern "C" fn probe_update(
     s: &[f32],
@@ -88,6 +108,9 @@ pub extern "C" fn probe_update(
     out: &mut [f32],
 ) -> u32 {
     if s.len() < 18 {
+        return 99;
+    }
+    if values.len() < 192 {
         return 99;
     }
     planned(

@@ -148,13 +148,10 @@ fn stepped(f: Feet, out: &mut [f32]) -> u32 {
     if feet::store_feet(f, out) { 256 } else { 99 }
 }
 
-// start, last, target, max move, height: 56 floats in, 18 out where there is a step.
-#[no_mangle]
-pub extern "C" fn probe_step(s: &[f32], t: u32, aggressive: u32, out: &mut [f32]) -> u32 {
-    if s.len() < 56 {
-        return 99;
-    }
-    let state = StepIterator {
+fn by_distance(s: &[f32], t: u32, aggressive: u32) -> StepIterator
+    requires { ⌜ 56 ≤ length (now s) ⌝ }
+{
+    StepIterator {
         start: feet::feet(s, 0),
         last: feet::feet(s, 18),
         target: feet::feet(s, 36),
@@ -162,8 +159,16 @@ pub extern "C" fn probe_step(s: &[f32], t: u32, aggressive: u32, out: &mut [f32]
         step_height: s[55],
         tripod: tripod(t),
         aggressive_leg_lift: aggressive != 0,
-    };
-    match state.next() {
+    }
+}
+
+// start, last, target, max move, height: 56 floats in, 18 out where there is a step.
+#[no_mangle]
+pub extern "C" fn probe_step(s: &[f32], t: u32, aggressive: u32, out: &mut [f32]) -> u32 {
+    if s.len() < 56 {
+        return 99;
+    }
+    match by_distance(s, t, aggressive).next() {
         NextStep::Step(f, _) => stepped(f, out),
         NextStep::NoStep => 0,
         NextStep::Refused(n) => n,
@@ -178,6 +183,30 @@ fn lift(s: &[f32], t: u32, aggressive: u32) -> Lift
         grounded_leg_descent: s[55],
         tripod: tripod(t),
         aggressive_leg_lift: aggressive != 0,
+    }
+}
+
+fn by_time(s: &[f32], t: u32, aggressive: u32, period: Time) -> TimedStepIterator
+    requires { ⌜ 56 ≤ length (now s) ⌝ }
+{
+    TimedStepIterator {
+        start: feet::feet(s, 0),
+        last: feet::feet(s, 18),
+        target: feet::feet(s, 36),
+        period: period,
+        lift: lift(s, t, aggressive),
+    }
+}
+
+fn at_even_pace(s: &[f32], t: u32, aggressive: u32, period: Time) -> EvenStepIterator
+    requires { ⌜ 56 ≤ length (now s) ⌝ }
+{
+    EvenStepIterator {
+        start: feet::feet(s, 0),
+        last: feet::feet(s, 18),
+        target: feet::feet(s, 36),
+        period: period,
+        lift: lift(s, t, aggressive),
     }
 }
 
@@ -196,14 +225,7 @@ pub extern "C" fn probe_timed_step(
     if s.len() < 56 {
         return 99;
     }
-    let state = TimedStepIterator {
-        start: feet::feet(s, 0),
-        last: feet::feet(s, 18),
-        target: feet::feet(s, 36),
-        period: time(ps, pn),
-        lift: lift(s, t, aggressive),
-    };
-    match state.next(time(es, en)) {
+    match by_time(s, t, aggressive, time(ps, pn)).next(time(es, en)) {
         NextTimed::Step(f, _) => stepped(f, out),
         NextTimed::NoStep => 0,
         NextTimed::Refused(n) => n,
@@ -225,14 +247,7 @@ pub extern "C" fn probe_even_step(
     if s.len() < 56 {
         return 99;
     }
-    let state = EvenStepIterator {
-        start: feet::feet(s, 0),
-        last: feet::feet(s, 18),
-        target: feet::feet(s, 36),
-        period: time(ps, pn),
-        lift: lift(s, t, aggressive),
-    };
-    match state.next(time(es, en)) {
+    match at_even_pace(s, t, aggressive, time(ps, pn)).next(time(es, en)) {
         NextEven::Step(f, _) => stepped(f, out),
         NextEven::NoStep => 0,
         NextEven::Refused(n) => n,
@@ -260,6 +275,24 @@ fn store_course(
     feet::store_feet(f, start) & feet::store_feet(g, last) & feet::store_feet(h, target)
 }
 
+fn store_by_distance(
+    i: StepIterator,
+    start: &mut [f32],
+    last: &mut [f32],
+    target: &mut [f32],
+    max_move: &mut f32,
+    height: &mut f32,
+) -> u32 {
+    *max_move = i.max_move;
+    *height = i.step_height;
+    let t = i.tripod;
+    if store_course(i.start, i.last, i.target, start, last, target) {
+        marks(t, i.aggressive_leg_lift)
+    } else {
+        99
+    }
+}
+
 // A step by distance sets out: start, target, max move, height, 38 floats in; the state out.
 #[no_mangle]
 pub extern "C" fn probe_step_iter(
@@ -283,17 +316,35 @@ pub extern "C" fn probe_step_iter(
         tripod(t),
         aggressive != 0,
     ) {
-        StepIter::State(i) => {
-            *max_move = i.max_move;
-            *height = i.step_height;
-            let t = i.tripod;
-            if store_course(i.start, i.last, i.target, start, last, target) {
-                marks(t, i.aggressive_leg_lift)
-            } else {
-                99
-            }
-        }
+        StepIter::State(i) => store_by_distance(i, start, last, target, max_move, height),
         StepIter::Refused(n) => n,
+    }
+}
+
+// The next step of a state, 56 floats as above; where there is one the feet out, the state after and its marks.
+#[no_mangle]
+pub extern "C" fn probe_next_step(
+    s: &[f32],
+    t: u32,
+    aggressive: u32,
+    out: &mut [f32],
+    start: &mut [f32],
+    last: &mut [f32],
+    target: &mut [f32],
+    max_move: &mut f32,
+    height: &mut f32,
+    mark: &mut u32,
+) -> u32 {
+    if s.len() < 56 {
+        return 99;
+    }
+    match by_distance(s, t, aggressive).next() {
+        NextStep::Step(f, after) => {
+            *mark = store_by_distance(after, start, last, target, max_move, height);
+            stepped(f, out)
+        }
+        NextStep::NoStep => 0,
+        NextStep::Refused(n) => n,
     }
 }
 
@@ -394,6 +445,80 @@ pub extern "C" fn probe_even_iter(
             }
         }
         EvenIter::Refused(n) => n,
+    }
+}
+
+// The next step of a state by time, 56 floats as above; where there is one the feet out, the state after and its marks.
+#[no_mangle]
+pub extern "C" fn probe_next_timed(
+    s: &[f32],
+    t: u32,
+    aggressive: u32,
+    es: u64,
+    en: u32,
+    seconds: u64,
+    nanoseconds: u32,
+    out: &mut [f32],
+    start: &mut [f32],
+    last: &mut [f32],
+    target: &mut [f32],
+    height: &mut f32,
+    descent: &mut f32,
+    ps: &mut u64,
+    pn: &mut u32,
+    mark: &mut u32,
+) -> u32 {
+    if s.len() < 56 {
+        return 99;
+    }
+    match by_time(s, t, aggressive, time(seconds, nanoseconds)).next(time(es, en)) {
+        NextTimed::Step(f, i) => {
+            *mark = store_lift(i.lift, i.period, height, descent, ps, pn);
+            if store_course(i.start, i.last, i.target, start, last, target) {
+                stepped(f, out)
+            } else {
+                99
+            }
+        }
+        NextTimed::NoStep => 0,
+        NextTimed::Refused(n) => n,
+    }
+}
+
+// The same at even pace.
+#[no_mangle]
+pub extern "C" fn probe_next_even(
+    s: &[f32],
+    t: u32,
+    aggressive: u32,
+    es: u64,
+    en: u32,
+    seconds: u64,
+    nanoseconds: u32,
+    out: &mut [f32],
+    start: &mut [f32],
+    last: &mut [f32],
+    target: &mut [f32],
+    height: &mut f32,
+    descent: &mut f32,
+    ps: &mut u64,
+    pn: &mut u32,
+    mark: &mut u32,
+) -> u32 {
+    if s.len() < 56 {
+        return 99;
+    }
+    match at_even_pace(s, t, aggressive, time(seconds, nanoseconds)).next(time(es, en)) {
+        NextEven::Step(f, i) => {
+            *mark = store_lift(i.lift, i.period, height, descent, ps, pn);
+            if store_course(i.start, i.last, i.target, start, last, target) {
+                stepped(f, out)
+            } else {
+                99
+            }
+        }
+        NextEven::NoStep => 0,
+        NextEven::Refused(n) => n,
     }
 }
 
