@@ -1,6 +1,8 @@
 // Times the proved library's five functions and those of the crate libm side by side, through the same boundary: a call that
 // is not inlined, the argument looked at, the answer stored. The best of many rounds counts, by turns.
 // A line a function: nanoseconds of ours and of libm's, the ratio. The last line counts the ratios above 1.
+mod checked;
+use checked::*;
 use std::hint::black_box;
 use std::time::Instant;
 
@@ -10,44 +12,6 @@ extern "C" {
     fn probe_cosine(x: f32, out: &mut f32) -> u32;
     fn probe_arc_cosine(x: f32, out: &mut f32) -> u32;
     fn probe_atan2(y: f32, x: f32, out: &mut f32) -> u32;
-}
-
-#[inline(always)]
-fn refusal(from: f32, to: f32, x: f32) -> u32 {
-    if !x.is_finite() {
-        1
-    } else if !(from <= x && x <= to) {
-        2
-    } else {
-        0
-    }
-}
-
-macro_rules! checked {
-    ($name:ident, $f:path, $from:expr, $to:expr) => {
-        #[inline(never)]
-        fn $name(x: f32, out: &mut f32) -> u32 {
-            let n = refusal($from, $to, x);
-            if n == 0 {
-                *out = $f(x);
-            }
-            n
-        }
-    };
-}
-
-checked!(root, libm::sqrtf, 0.0, 65536.0);
-checked!(sine, libm::sinf, -16.0, 16.0);
-checked!(cosine, libm::cosf, -16.0, 16.0);
-checked!(arc_cosine, libm::acosf, -1.0, 1.0);
-
-#[inline(never)]
-fn atan2(y: f32, x: f32, out: &mut f32) -> u32 {
-    let n = refusal(-128.0, 128.0, y).max(refusal(-128.0, 128.0, x));
-    if n == 0 {
-        *out = libm::atan2f(y, x);
-    }
-    n
 }
 
 /// Keeps a call whose answer nobody reads.
@@ -98,7 +62,7 @@ fn main() {
     let (mut u, mut v) = (0.0f32, 0.0f32);
     println!("{:22} {:>8} {:>8} {:>7}", "function", "ours ns", "libm ns", "ratio");
     let roots = bench.floats(0.0, 100.0);
-    bench.both("square root", |i| unsafe { seen(probe_square_root(roots[i], &mut a)) }, |i| seen(root(roots[i], &mut b)));
+    bench.both("square root", |i| unsafe { seen(probe_square_root(roots[i], &mut a)) }, |i| seen(libm_square_root(roots[i], &mut b)));
     // chained: each argument waits for the answer before it
     bench.both(
         "square root, chained",
@@ -107,14 +71,14 @@ fn main() {
             u = a * 0.0;
         },
         |i| {
-            root(roots[i] + v, &mut b);
+            libm_square_root(roots[i] + v, &mut b);
             v = b * 0.0;
         },
     );
     let (xs, ys, qs) = (bench.floats(-8.0, 8.0), bench.floats(-8.0, 8.0), bench.floats(-1.0, 1.0));
-    bench.both("sine", |i| unsafe { seen(probe_sine(xs[i], &mut a)) }, |i| seen(sine(xs[i], &mut b)));
-    bench.both("cosine", |i| unsafe { seen(probe_cosine(xs[i], &mut a)) }, |i| seen(cosine(xs[i], &mut b)));
-    bench.both("arc cosine", |i| unsafe { seen(probe_arc_cosine(qs[i], &mut a)) }, |i| seen(arc_cosine(qs[i], &mut b)));
-    bench.both("atan2", |i| unsafe { seen(probe_atan2(ys[i], xs[i], &mut a)) }, |i| seen(atan2(ys[i], xs[i], &mut b)));
+    bench.both("sine", |i| unsafe { seen(probe_sine(xs[i], &mut a)) }, |i| seen(libm_sine(xs[i], &mut b)));
+    bench.both("cosine", |i| unsafe { seen(probe_cosine(xs[i], &mut a)) }, |i| seen(libm_cosine(xs[i], &mut b)));
+    bench.both("arc cosine", |i| unsafe { seen(probe_arc_cosine(qs[i], &mut a)) }, |i| seen(libm_arc_cosine(qs[i], &mut b)));
+    bench.both("atan2", |i| unsafe { seen(probe_atan2(ys[i], xs[i], &mut a)) }, |i| seen(libm_atan2(ys[i], xs[i], &mut b)));
     println!("behind libm: {}", bench.behind);
 }
