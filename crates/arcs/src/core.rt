@@ -37,7 +37,7 @@ pub fn atan2(y: f32, x: f32) -> f32
 }
 
 // The angle of (q, root of 1 - q²).
-fn inside_arc_cosine(q: f32) -> f32
+pub(crate) fn inside_arc_cosine(q: f32) -> f32
     requires { ⌜ T (permits arcCosineArgument q) ⌝ }
     ensures { λ r. ⌜ r ≡ insideArcCosine q ⌝ }
 {
@@ -45,7 +45,7 @@ fn inside_arc_cosine(q: f32) -> f32
 }
 
 // Of two zeros it is y's zero, or P with y's sign where x is -0. P is 13176795 units of 2^-22.
-fn finite_atan2(y: f32, x: f32) -> f32
+pub(crate) fn finite_atan2(y: f32, x: f32) -> f32
     requires { ⌜ T (finite y && finite x) ⌝ }
     ensures { λ r. ⌜ r ≡ finiteAtan2 y x ⌝ }
 {

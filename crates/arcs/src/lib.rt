@@ -36,7 +36,7 @@ pub fn arc_cosine(q: f32) -> Answer
 {
     let n = door::refused(limits::arc_cosine_argument(), q);
     if n == 0 {
-        Answer::Value(core::arc_cosine(q))
+        Answer::Value(core::inside_arc_cosine(q))
     } else {
         Answer::Refused(n)
     }
@@ -49,7 +49,7 @@ pub fn atan2(y: f32, x: f32) -> Answer
 {
     let n = atan2_refused(y, x);
     if n == 0 {
-        Answer::Value(core::atan2(y, x))
+        Answer::Value(core::finite_atan2(y, x))
     } else {
         Answer::Refused(n)
     }

@@ -13,4 +13,3 @@ pub use Rattle.house.specs.SinesEntries
 pub use Rattle.house.specs.ArcsWedges
 pub use Rattle.house.specs.ArcsEntries
 pub use Rattle.house.specs.ArcsHow
-pub use Rattle.house.specs.ArcsDigits
