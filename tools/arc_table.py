@@ -1,18 +1,14 @@
 #!/usr/bin/env python3
-"""arc_table.py: writes the two tables of the room `arcs`, as the arms of a Rattle `match`.
+"""arc_table.py: writes the table of the room `arcs`, as the arms of a Rattle `match`.
 
     python3 tools/arc_table.py rows       the arms of `entry` in crates/arcs/src/table.rt
-    python3 tools/arc_table.py seeds      the arms of `seed` in crates/arcs/src/whole_root.rt
 
 Row k has 2^30 times the angle of the direction (128, k), to the nearest whole number, and 2^45 over 128^2 + k^2, rounded
 down. The checker holds each arm to `arcTangent k` (crates/arc_rows/specs/ArcTangent.antt), that to the
 nearest-whole-number rule, and the second number to `lean k` (crates/arcs/specs/How.antt), all by computed tests.
-Seed i is 2^16 over the root of (i + 1/2) / 128, to the nearest whole number. Nothing but its bound is proved of it: what
-starts from it is mended, so that a wrong arm costs time and no digit.
 Whole numbers only: nothing here is rounded by a float."""
 import sys
 from fractions import Fraction
-from math import isqrt
 
 
 def arctangent(k, digits=60):
@@ -36,11 +32,6 @@ def rows():
     return {k: (nearest(arctangent(k) * (1 << 30)), (1 << 45) // (16384 + k * k)) for k in range(129)}
 
 
-def seeds():
-    # the nearest whole number to sqrt(2^32 * 256 / (2 i + 1))
-    return {i: (isqrt(4 * (1 << 40) // (2 * i + 1)) + 1) // 2 for i in range(32, 128)}
-
-
 def arms(values):
     """One arm a line; the last row is the arm of all other numbers."""
     last = max(values)
@@ -50,7 +41,5 @@ def arms(values):
 if __name__ == "__main__":
     if sys.argv[1:] == ["rows"]:
         print(arms(rows()), end="")
-    elif sys.argv[1:] == ["seeds"]:
-        print("".join("        %d => %d,\n" % pair for pair in sorted(seeds().items())) + "        _ => %d," % (1 << 17))
     else:
         sys.exit(__doc__)

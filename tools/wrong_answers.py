@@ -24,7 +24,7 @@ ENTRIES = {
     "square_root": "roots/entry_refuses_2_whatever_it_was roots/entry_root_of_the_opposite roots/core_rounds_down",
     "sine": "sines/sine_sign_lost sines/sine_rounds_askew sines/narrow_sine_band",
     "cosine": "sines/cosine_of_zero_is_zero sines/cosine_swaps_the_pair",
-    "arc_cosine": "arcs/lost_sign_of_q arcs/narrow_wedge",
+    "arc_cosine": "arcs/lost_sign_of_q arcs/root_of_another_number arcs/narrow_wedge",
     "atan2": "arcs/lost_sign_of_y arcs/zeros_swapped",
     "from_pattern": "numbers/nan_pattern_is_a_number numbers/nan_pattern_is_infinite",
     "pattern_of": "numbers/infinity_has_no_pattern numbers/nan_has_a_pattern",

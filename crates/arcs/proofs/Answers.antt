@@ -1,8 +1,7 @@
 -- What the functions on f32 answer is what `How` says, inside the table and outside it. Assumes nothing.
 use mathlib.Core.Path.{_≡_, refl, sym, ap, ap₂, _∙_, subst, subst₂}
-use mathlib.Core.Logic.{_⊎_, inl, inr}
 use mathlib.Core.Bool.{Bool, true, false, cond, _&&_, true≢false}
-use Prim.Native.Nat.{ℕ, zero, suc, _+_, _≤_, _<_}
+use Prim.Native.Nat.{ℕ, _≤_, _<_}
 use native.Mathlib.Omega.{arith}
 use lib.Dec.{T, ltb}
 use lib.Ieee.{Float, binary32, units, fits, ofBits, toBits}
@@ -20,7 +19,7 @@ use Rattle.arcs.specs.How.{Sorted, angle, smaller, larger, ratio, angleO
 use Rattle.arcs.specs.Wedges.{signBit, ArcCosineOf, Atan2Of}
 use Rattle.arcs.proofs.Patterns.{sign, bare, mag-val, sign-val}
 use Rattle.arcs.proofs.Fields.{val-lt, val-le, val-ltb}
-use Rattle.arcs.proofs.Ratios.{smaller-le, larger-pos}
+use Rattle.arcs.proofs.Ratios.{smaller-le, larger-x, larger-y}
 use Rattle.arcs.proofs.ArcBand.{permitted-finite, side-finite}
 use Rattle.arcs.proofs.Atan2Band.{zero-angle}
 use Rattle.arcs.proofs.Bands.{arc-cosine-band, atan2-band}
@@ -57,19 +56,12 @@ patterns-lt i j h k = go (ltb i j)
     go true = (h, k)
     go false = (k, h)
 
-pub patterns-sorted : (i j u v : ℕ) → i < 2139095040 → j < 2139095040 → 0 < i + j → u ≡ smaller i j → v ≡ larger i j → Sorted (ofBits binary32 u) (ofBits binary32 v)
+pub patterns-sorted : (i j u v : ℕ) → i < 2139095040 → j < 2139095040 → 0 < v → u ≡ smaller i j → v ≡ larger i j → Sorted (ofBits binary32 u) (ofBits binary32 v)
 patterns-sorted i j u v h k p eu ev =
     let l = patterns-lt i j h k in
     subst₂ (λ (m n : ℕ). Sorted (ofBits binary32 m) (ofBits binary32 n)) (sym eu) (sym ev)
     (sorted-of (ofBits binary32 (smaller i j)) (ofBits binary32 (larger i j)) (val (smaller i j)) (val (larger i j)) (bits-val (smaller i j) (l .0)) (bits-val (larger i j) (l .1)) (val-le (smaller i j) (larger i j) (smaller-le i j))
-    (val-lt 0 (larger i j) (larger-pos i j (either-of i j p))))
-  where
-    either-of : (i j : ℕ) → 0 < i + j → (0 < i) ⊎ (0 < j)
-    either-of zero j p = inr (plain p)
-      where
-        plain : 0 < 0 + j → 0 < j
-        plain g = omega arith
-    either-of (suc i) j p = inl (omega arith)
+    (val-lt 0 (larger i j) (subst (λ (n : ℕ). 0 < n) ev p)))
 
 module _ (y x : Float) (fy : T (fits binary32 y)) (fx : T (fits binary32 x)) (h : T (finite y && finite x)) where
   abbrev bx : ℕ
@@ -94,11 +86,14 @@ module _ (y x : Float) (fy : T (fits binary32 y)) (fx : T (fits binary32 x)) (h 
       (ea ∙ ap (angle (ltb (bare bx) (bare by)) (sign bx)) (ew ∙ ap₂ ratio (bits-mag u lu ∙ ap val eu) (bits-mag v lv ∙ ap val ev)) ∙ in-units (sign bx) (bare bx) (bare by))
       ∙ sym of-bits
 
-  pub atan2-zero : (a : ℕ) (r : Float) → bare bx + bare by ≡ 0 → a ≡ cond (sign bx) 13176795 0 → r ≡ turned (sign by) a → r ≡ finiteAtan2 y x
-  atan2-zero a r z ea er =
-      let i : bare bx ≡ 0 = omega arith in
-      let j : bare by ≡ 0 = omega arith in
+  pub atan2-zero : (v a : ℕ) (r : Float) → v ≡ larger (bare bx) (bare by) → v ≡ 0 → a ≡ cond (sign bx) 13176795 0 → r ≡ turned (sign by) a → r ≡ finiteAtan2 y x
+  atan2-zero v a r ev z ea er =
+      let i : bare bx ≡ 0 = none (bare bx) (larger-x (bare bx) (bare by)) in
+      let j : bare by ≡ 0 = none (bare by) (larger-y (bare bx) (bare by)) in
       er ∙ ap (turned (sign by)) (ea ∙ sym (zero-angle (sign bx)) ∙ sym (ap₂ (λ (m n : ℕ). angleOf (sign bx) (val m) (val n)) i j)) ∙ sym of-bits
+    where
+      none : (n : ℕ) → n ≤ larger (bare bx) (bare by) → n ≡ 0
+      none n h = let e : larger (bare bx) (bare by) ≡ 0 = sym ev ∙ z in omega arith
 
 -- ---- arc cosine
 pub root-finite : (q s : Float) → T (fits binary32 q) → T (permits arcCosineArgument q) → s ≡ side q → T (finite s && finite q)

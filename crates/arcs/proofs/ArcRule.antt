@@ -2,10 +2,10 @@
 use Prim.Native.Nat.{ℕ, suc, _+_, _*_, _-_, _/_, _^_, _≤_, _<_}
 use mathlib.Core.Path.{_≡_, refl, sym, subst}
 use mathlib.Core.Logic.{inl, inr}
-use mathlib.Core.Bool.{Bool, true, false, not, cond}
-use native.Mathlib.Nat.{le-refl, le-of-lt, add-zero, mul-le-mul}
+use mathlib.Core.Bool.{Bool, true, false}
+use native.Mathlib.Nat.{add-zero, mul-le-mul}
 use native.Mathlib.Omega.{arith}
-use lib.Dec.{T, ltb, ltb→lt, nltb→le, lit<}
+use lib.Dec.{ltb, lit<}
 use Rattle.series.specs.Fractions.{Fraction, _÷_, whole, negative, signed, _⊕_, _⊖_, _≋_, _≼_, _≺_}
 use Rattle.series.specs.Series.{C}
 use Rattle.series.proofs.Fractions.{same-sym, le-same}
@@ -20,6 +20,7 @@ use Rattle.arcs.proofs.Octants.{Less, Right, Left, right, left}
 use Rattle.arcs.proofs.Numbers.{lt-same}
 use Rattle.arcs.proofs.Places.{G, G-pos, cosineAt, C-at, cosine-pos, less-at, plus-at}
 use Rattle.arcs.proofs.Turn.{Rounded, rounded}
+use Rattle.arcs.proofs.Ratios.{larger-x, larger-y}
 use Rattle.arcs.proofs.Transfer.{Root}
 use Rattle.arcs.proofs.Beside.{Long, upper-side, lower-side}
 
@@ -30,23 +31,9 @@ long-flip : (c c' s s' d : ℕ) → Long c c' s s' d → Long c' c s s' d
 long-flip c c' s s' d h = (omega (arith, h .0), omega (arith, h .1))
 
 -- the larger of the two is at least half of U
-under-x : (x y : ℕ) → x ≤ larger x y
-under-x x y = go (ltb x y) (ltb→lt x y)
-  where
-    go : (b : Bool) → (T b → x < y) → x ≤ cond b y x
-    go true f = le-of-lt (f tt)
-    go false f = le-refl x
-
-under-y : (x y : ℕ) → y ≤ larger x y
-under-y x y = go (ltb x y) (nltb→le x y)
-  where
-    go : (b : Bool) → (T (not b) → y ≤ x) → y ≤ cond b y x
-    go true f = le-refl y
-    go false f = f tt
-
-pub large : (U X Y : ℕ) → Root U X Y → U ≤ 2 * larger X Y
+large : (U X Y : ℕ) → Root U X Y → U ≤ 2 * larger X Y
 large U X Y R = elim (here-or-on (2 * larger X Y) U) [
-  | inl g ↦ absurd (no (larger X Y) (R .Z) (mul-le-mul (under-x X Y) (under-x X Y)) (mul-le-mul (under-y X Y) (under-y X Y)) (mul-le-mul g g) (R .sum) (R .low))
+  | inl g ↦ absurd (no (larger X Y) (R .Z) (mul-le-mul (larger-x X Y) (larger-x X Y)) (mul-le-mul (larger-y X Y) (larger-y X Y)) (mul-le-mul g g) (R .sum) (R .low))
   | inr g ↦ g
 ]
   where
@@ -97,10 +84,10 @@ module _ (F : ℕ) (F-low : 4 ≤ F) (F-high : F ≤ 16) (U Q Y : ℕ) (U-pos : 
       go g = omega arith
 
   upper-at : (c c' s s' : ℕ) → Long c c' s s' D → Less v Y Q c c' s s' → c * U ≤ c' * U + Q * D
-  upper-at c c' s s' L h = upper-side U Q Y v c c' s s' D R Q-le (under-x Q Y) (under-y Q Y) some U-pos L D-pos h (large U Q Y R)
+  upper-at c c' s s' L h = upper-side U Q Y v c c' s s' D R Q-le (larger-x Q Y) (larger-y Q Y) some U-pos L D-pos h (large U Q Y R)
 
   lower-at : (c c' s s' : ℕ) → Long c c' s s' D → 2147483648 * s' ≤ 2147483648 * s + D → Less v Y Q c' c s' s → c' * U + Q * D ≤ c * U
-  lower-at c c' s s' L l h = lower-side U Q Y v c c' s s' D R Q-le (under-x Q Y) (under-y Q Y) some U-pos L D-pos h l
+  lower-at c c' s s' L l h = lower-side U Q Y v c c' s s' D R Q-le (larger-x Q Y) (larger-y Q Y) some U-pos L D-pos h l
 
   module _ (t A : ℕ) (B : Rounded t (256 * A)) where
     right-low : Right v Q Y t → E < 256 * A → (k : ℕ) → k + E ≡ 256 * A → Q ÷ U ≼ difference (cp k) (cm k) D

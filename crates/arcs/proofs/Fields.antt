@@ -1,7 +1,7 @@
 -- A bit pattern's number as digits times a power of two: its order, and the shift that cuts it. Assumes nothing.
 use mathlib.Core.Path.{_≡_, refl, sym, ap, ap₂, _∙_, subst}
 use mathlib.Core.Logic.{inl, inr}
-use mathlib.Core.Bool.{Bool, true, false, not}
+use mathlib.Core.Bool.{Bool, true, false, not, cond}
 use Prim.Native.Nat.{ℕ, zero, suc, _+_, _-_, _*_, _/_, _%_, _^_, _≤_, _<_}
 use native.Mathlib.Nat.{le-trans, le-of-eq, lt-of-lt-of-le, not-le-of-lt, mul-le-mul, mul-le-mul-left, mul-lt-mul-of-pos-right, mul-div-mul-right, div-lt-iff-lt-mul, div-one, le-div-iff-mul-le, div-mul-le-self, pow-succ'}
 use native.Mathlib.Omega.{arith}
@@ -69,7 +69,7 @@ at-most-unity m h = elim (here-or-on 1065353216 m) [ inl g ↦ absurd (not-le-of
 cancel : (t d f : ℕ) → t * 2 ^ f / 2 ^ (d + f) ≡ t / 2 ^ d
 cancel t d f = ap (λ (k : ℕ). t * 2 ^ f / k) (pow-add 2 d f) ∙ mul-div-mul-right t (2 ^ d) (pow-pos f)
 
-pub part-zero : (m : ℕ) → m / 8388608 < 96 → 0 ≡ partOf (val m)
+part-zero : (m : ℕ) → m / 8388608 < 96 → 0 ≡ partOf (val m)
 unfolding partOf
 part-zero m h = none (val m / 2 ^ 124) (div-lt-iff-lt-mul {k = 2 ^ 124} {x = val m} {y = 1} (pow-pos 124) .1
     (lt-of-lt-of-le (under-next (m / 8388608) (m % 8388608) (omega arith)) (le-trans (mul-le-mul-left 8388608 (pow-mono {i = m / 8388608} {j = 100} (omega arith))) (lit≤ {m = 8388608 * 2 ^ 100} {n = 1 * 2 ^ 124} tt))))
@@ -91,7 +91,7 @@ normal-val m h = go (m / 8388608) (omega arith)
 wider : (n : ℕ) → n / 2 ^ 124 ≡ n * 4 / 2 ^ 126
 wider n = sym (mul-div-mul-right n (2 ^ 124) (lit< {m = 0} {n = 4} tt))
 
-pub part-is : (m : ℕ) → m ≤ 1065353216 → 96 ≤ m / 8388608 → 4 * (8388608 + m % 8388608) / 2 ^ (127 - m / 8388608) ≡ partOf (val m)
+part-is : (m : ℕ) → m ≤ 1065353216 → 96 ≤ m / 8388608 → 4 * (8388608 + m % 8388608) / 2 ^ (127 - m / 8388608) ≡ partOf (val m)
 unfolding partOf
 part-is m l h =
     let k : 8388608 ≤ m = omega arith in
@@ -102,7 +102,7 @@ part-is m l h =
     move : (a k : ℕ) → a * k * 4 ≡ 4 * a * k
     move a k = omega arith
 
-pub part-small : (m : ℕ) → m ≤ 1065353216 → 4 * (8388608 + m % 8388608) / 2 ^ (127 - m / 8388608) ≤ 33554432
+part-small : (m : ℕ) → m ≤ 1065353216 → 4 * (8388608 + m % 8388608) / 2 ^ (127 - m / 8388608) ≤ 33554432
 part-small m h = elim (here-or-on (m / 8388608) 127) [
   | inl g ↦ le-trans (halved (126 - m / 8388608) (127 - m / 8388608) (omega arith)) (omega arith)
   | inr g ↦ let e : 127 - m / 8388608 ≡ 0 = omega arith in subst (λ (k : ℕ). 4 * (8388608 + m % 8388608) / 2 ^ k ≤ 33554432) (sym e) (subst (λ (n : ℕ). n ≤ 33554432) (sym (div-one (4 * (8388608 + m % 8388608)))) (omega arith))
@@ -111,3 +111,27 @@ part-small m h = elim (here-or-on (m / 8388608) 127) [
     halved : (i j : ℕ) → j ≡ suc i → 4 * (8388608 + m % 8388608) / 2 ^ j ≤ 4 * (8388608 + m % 8388608) / 2
     halved i j e = le-div-iff-mul-le {k = 2} {x = 4 * (8388608 + m % 8388608) / 2 ^ j} {y = 4 * (8388608 + m % 8388608)} (lit< {m = 0} {n = 2} tt) .1
         (le-trans (mul-le-mul-left (4 * (8388608 + m % 8388608) / 2 ^ j) (pow-mono {i = 1} {j = j} (omega arith))) (div-mul-le-self (4 * (8388608 + m % 8388608)) (2 ^ j)))
+
+-- by d places, or by 31, which leave nothing either
+abbrev places : ℕ → ℕ
+places d = cond (ltb d 32) d 31
+
+pub places-lt : (d k : ℕ) → k ≡ places d → k < 32
+places-lt d k e = subst (λ (n : ℕ). n < 32) (sym e) (go (ltb d 32) (ltb→lt d 32))
+  where
+    go : (b : Bool) → (T b → d < 32) → cond b d 31 < 32
+    go true f = f tt
+    go false f = omega arith
+
+pub part-by : (m k : ℕ) → m ≤ 1065353216 → k ≡ places (127 - m / 8388608) → (4 * (8388608 + m % 8388608) / 2 ^ k ≡ partOf (val m)) × (4 * (8388608 + m % 8388608) / 2 ^ k ≤ 33554432)
+part-by m k h e = subst (λ (n : ℕ). Part n) (sym e) (go (ltb (127 - m / 8388608) 32) (ltb→lt (127 - m / 8388608) 32) (nltb→le (127 - m / 8388608) 32))
+  where
+    Part : ℕ → Type 0
+    Part n = (4 * (8388608 + m % 8388608) / 2 ^ n ≡ partOf (val m)) × (4 * (8388608 + m % 8388608) / 2 ^ n ≤ 33554432)
+
+    none : 4 * (8388608 + m % 8388608) / 2147483648 ≡ 0
+    none = omega arith
+
+    go : (b : Bool) → (T b → 127 - m / 8388608 < 32) → (T (not b) → 32 ≤ 127 - m / 8388608) → Part (cond b (127 - m / 8388608) 31)
+    go true f g = let l : 127 - m / 8388608 < 32 = f tt in (part-is m h (omega arith), part-small m h)
+    go false f g = let l : 32 ≤ 127 - m / 8388608 = g tt in (none ∙ part-zero m (omega arith), subst (λ (n : ℕ). n ≤ 33554432) (sym none) (omega arith))

@@ -3,7 +3,7 @@ use mathlib.Core.Path.{_≡_, sym, ap, _∙_, subst}
 use mathlib.Core.Logic.{_⊎_, inl, inr}
 use mathlib.Core.Bool.{Bool, true, false, not, cond}
 use Prim.Native.Nat.{ℕ, _+_, _*_, _/_, _%_, _^_, _≤_, _<_}
-use native.Mathlib.Nat.{le-trans, le-of-eq, le-of-lt, lt-of-le-of-lt, mul-le-mul-right, le-of-mul-le-mul-right, div-mul-le-self, lt-div-mul-add, div-le-of-le-mul}
+use native.Mathlib.Nat.{le-refl, le-trans, le-of-eq, le-of-lt, lt-of-le-of-lt, lt-of-lt-of-le, mul-le-mul-right, le-of-mul-le-mul-right, div-mul-le-self, lt-div-mul-add, div-le-of-le-mul}
 use native.Mathlib.Omega.{arith}
 use lib.Dec.{T, ltb, ltb→lt, nltb→le, nleb→lt, lit<, lit≤}
 use lib.Pow.{pow-pos}
@@ -57,19 +57,23 @@ smaller-le x y = go (ltb x y) (ltb→lt x y) (nltb→le x y)
     go true f g = le-of-lt (f tt)
     go false f g = g tt
 
-pub larger-pos : (x y : ℕ) → (0 < x) ⊎ (0 < y) → 0 < larger x y
-larger-pos x y p = go (ltb x y) (ltb→lt x y) (nltb→le x y) p
+pub larger-x : (x y : ℕ) → x ≤ larger x y
+larger-x x y = go (ltb x y) (ltb→lt x y)
   where
-    go : (b : Bool) → (T b → x < y) → (T (not b) → y ≤ x) → (0 < x) ⊎ (0 < y) → 0 < cond b y x
-    go true f g q = lt-of-le-of-lt (any x) (f tt)
-      where
-        any : (n : ℕ) → 0 ≤ n
-        any n = omega arith
-    go false f g (inl q) = q
-    go false f g (inr q) = more (g tt)
-      where
-        more : y ≤ x → 0 < x
-        more h = omega arith
+    go : (b : Bool) → (T b → x < y) → x ≤ cond b y x
+    go true f = le-of-lt (f tt)
+    go false f = le-refl x
+
+pub larger-y : (x y : ℕ) → y ≤ larger x y
+larger-y x y = go (ltb x y) (nltb→le x y)
+  where
+    go : (b : Bool) → (T (not b) → y ≤ x) → y ≤ cond b y x
+    go true f = le-refl y
+    go false f = f tt
+
+pub larger-pos : (x y : ℕ) → (0 < x) ⊎ (0 < y) → 0 < larger x y
+larger-pos x y (inl p) = lt-of-lt-of-le p (larger-x x y)
+larger-pos x y (inr p) = lt-of-lt-of-le p (larger-y x y)
 
 -- ---- the division of two f32
 module _ (u v : Float) (s : Sorted u v) where

@@ -55,13 +55,14 @@ pub(crate) fn finite_atan2(y: f32, x: f32) -> f32
     let j = b % 0x8000_0000;
     let left = 0x8000_0000 <= a;
     let below = 0x8000_0000 <= b;
-    if i + j == 0 {
+    let steep = i < j;
+    let larger = angle::chosen(steep, j, i);
+    if larger == 0 {
         return digits::scaled(below, angle::chosen(left, 13176795, 0));
     }
-    let steep = i < j;
     let w = digits::ratio(
         f32::from_bits(angle::chosen(steep, i, j)),
-        f32::from_bits(angle::chosen(steep, j, i)),
+        f32::from_bits(larger),
     );
     digits::scaled(below, angle::angle(steep, left, w))
 }

@@ -1,4 +1,5 @@
 // From f32 to whole numbers of at most 25 digits, and back.
+use crate::angle;
 ghost use mathlib.Core.Path.{_≡_};
 ghost use Prim.Native.Nat.{_≤_, _<_};
 ghost use lib.IntN.{negsuc};
@@ -26,14 +27,15 @@ pub fn scaled(below: bool, a: u32) -> f32
     a as f32 * unit(below)
 }
 
-// A number of at most 1 in units of 2^-25, cut; m is its bits without the sign.
+// A number of at most 1 in units of 2^-25, cut; m is its bits without the sign. 26 places or more
+// leave nothing, so that none is told apart: a branch there would cost the table its single load.
 pub fn part(m: u32) -> u32
     requires { ⌜ m ≤ 1065353216 ⌝ }
     ensures { λ r. ⌜ (r ≡ partOf (val m)) × (r ≤ 33554432) ⌝ }
 {
     let d = 127 - m / 0x80_0000;
     let t = 4 * (0x80_0000 + m % 0x80_0000);
-    if d < 32 { t >> d } else { 0 }
+    t >> angle::chosen(d < 32, d, 31)
 }
 
 // u / v in units of 2^-25, cut after it is rounded to an f32.

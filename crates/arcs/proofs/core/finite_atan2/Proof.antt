@@ -38,43 +38,42 @@ float-to-bits-a c = no-nan (c .args .x) (finite-x c)
 float-to-bits-b : tie.Need-float-to-bits-b
 float-to-bits-b c = no-nan (c .args .y) (finite-y c)
 
-add-if1 : tie.Need-add-if1
-add-if1 c = search needs
-
 chosen-requires : tie.Need-chosen-requires
 chosen-requires c κs = search needs
 
-scaled-requires : tie.Need-scaled-requires
-scaled-requires c κs = subst (λ (n : ℕ). n ≤ 13176795) (sym (c .chosen .ensures)) (zeros-le (sign (toBits binary32 (c .before .before .args .x))))
+-- the larger and the smaller pattern
+large-lt : (c : tie.After-chosen) → c .chosen .result < 2139095040
+large-lt c = let s = c .before in subst (λ (n : ℕ). n < 2139095040) (sym (c .chosen .ensures)) (patterns-lt (bare (toBits binary32 (s .args .x))) (bare (toBits binary32 (s .args .y))) (under-x s) (under-y s) .1)
 
-returns : tie.Need-returns
-returns c =
-    let s = c .before .before .before in
-    atan2-zero (s .args .y) (s .args .x) (held-y s) (held-x s) (s .pre) (c .before .chosen .result) (c .scaled .result) (c .before .before .if1 .taken) (c .before .chosen .ensures) (c .scaled .ensures)
+small-lt : (c : tie.After-chosen3) → c .chosen3 .result < 2139095040
+small-lt c = let s = c .before .before .before in subst (λ (n : ℕ). n < 2139095040) (sym (c .chosen3 .ensures)) (patterns-lt (bare (toBits binary32 (s .args .x))) (bare (toBits binary32 (s .args .y))) (under-x s) (under-y s) .0)
 
 chosen-requires-2 : tie.Need-chosen-requires-2
 chosen-requires-2 c κs = search needs
 
--- the smaller and the larger pattern
-small-lt : (c : tie.After-chosen2) → c .chosen2 .result < 2139095040
-small-lt c = let s = c .before .before in subst (λ (n : ℕ). n < 2139095040) (sym (c .chosen2 .ensures)) (patterns-lt (bare (toBits binary32 (s .args .x))) (bare (toBits binary32 (s .args .y))) (under-x s) (under-y s) .0)
+scaled-requires : tie.Need-scaled-requires
+scaled-requires c κs = subst (λ (n : ℕ). n ≤ 13176795) (sym (c .chosen2 .ensures)) (zeros-le (sign (toBits binary32 (c .before .before .before .args .x))))
 
-large-lt : (c : tie.After-chosen3) → c .chosen3 .result < 2139095040
-large-lt c = let s = c .before .before .before in subst (λ (n : ℕ). n < 2139095040) (sym (c .chosen3 .ensures)) (patterns-lt (bare (toBits binary32 (s .args .x))) (bare (toBits binary32 (s .args .y))) (under-x s) (under-y s) .1)
-
-float-from-bits-ratio : tie.Need-float-from-bits-ratio
-float-from-bits-ratio c = pattern-no-nan (c .chosen2 .result) (small-lt c)
+returns : tie.Need-returns
+returns c =
+    let l = c .before .before .before in
+    let s = l .before in
+    atan2-zero (s .args .y) (s .args .x) (held-y s) (held-x s) (s .pre) (l .chosen .result) (c .before .chosen2 .result) (c .scaled .result) (l .chosen .ensures) (c .before .before .if1 .taken) (c .before .chosen2 .ensures) (c .scaled .ensures)
 
 chosen-requires-3 : tie.Need-chosen-requires-3
 chosen-requires-3 c κs = search needs
 
+float-from-bits-ratio : tie.Need-float-from-bits-ratio
+float-from-bits-ratio c = pattern-no-nan (c .chosen3 .result) (small-lt c)
+
 float-from-bits-ratio-2 : tie.Need-float-from-bits-ratio-2
-float-from-bits-ratio-2 c = pattern-no-nan (c .chosen3 .result) (large-lt c)
+float-from-bits-ratio-2 c = let l = c .before .before in pattern-no-nan (l .chosen .result) (large-lt l)
 
 ratio-requires : tie.Need-ratio-requires
 ratio-requires c κs =
-    let s = c .before .before .before in
-    patterns-sorted (bare (toBits binary32 (s .args .x))) (bare (toBits binary32 (s .args .y))) (c .before .chosen2 .result) (c .chosen3 .result) (under-x s) (under-y s) (omega (arith, c .before .before .if1 .left)) (c .before .chosen2 .ensures) (c .chosen3 .ensures)
+    let l = c .before .before in
+    let s = l .before in
+    patterns-sorted (bare (toBits binary32 (s .args .x))) (bare (toBits binary32 (s .args .y))) (c .chosen3 .result) (l .chosen .result) (under-x s) (under-y s) (omega (arith, c .before .if1 .left)) (c .chosen3 .ensures) (l .chosen .ensures)
 
 angle-requires : tie.Need-angle-requires
 angle-requires c κs = search needs
@@ -85,9 +84,10 @@ scaled-requires-2 c κs = search needs
 returns-2 : tie.Need-returns-2
 returns-2 c =
     let d = c .before .before .before in
-    let s = d .before .before .before in
-    atan2-is (s .args .y) (s .args .x) (held-y s) (held-x s) (s .pre) (d .before .chosen2 .result) (d .chosen3 .result) (c .before .before .ratio .result) (c .before .angle .result) (c .scaled2 .result)
-    (d .before .chosen2 .ensures) (d .chosen3 .ensures) (small-lt (d .before)) (large-lt d) (c .before .before .ratio .ensures .0) (c .before .angle .ensures .0) (c .scaled2 .ensures)
+    let l = d .before .before in
+    let s = l .before in
+    atan2-is (s .args .y) (s .args .x) (held-y s) (held-x s) (s .pre) (d .chosen3 .result) (l .chosen .result) (c .before .before .ratio .result) (c .before .angle .result) (c .scaled2 .result)
+    (d .chosen3 .ensures) (l .chosen .ensures) (small-lt d) (large-lt l) (c .before .before .ratio .ensures .0) (c .before .angle .ensures .0) (c .scaled2 .ensures)
 
 pub finite-atan2-spec : {M : Type 1} → statement M
 finite-atan2-spec =
@@ -95,13 +95,12 @@ finite-atan2-spec =
     (tie.spec
     float-to-bits-a
     float-to-bits-b
-    add-if1
     chosen-requires
+    chosen-requires-2
     scaled-requires
     returns
-    chosen-requires-2
-    float-from-bits-ratio
     chosen-requires-3
+    float-from-bits-ratio
     float-from-bits-ratio-2
     ratio-requires
     angle-requires
