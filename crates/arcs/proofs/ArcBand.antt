@@ -18,7 +18,7 @@ use Rattle.units.proofs.Table.{arc-cosine-argument-ends}
 use Rattle.series.specs.Fractions.{Fraction, _÷_, whole, signed, _≋_, value}
 use Rattle.series.proofs.Fractions.{same-sym, same-trans}
 use Rattle.arc_rows.specs.ArcTangent.{arcTangent}
-use Rattle.arcs.specs.How.{angle, wide, sharp, slope, lean, ratio, angleOf, turned, partOf, finiteAtan2, side, insideArcCosine}
+use Rattle.arcs.specs.How.{angle, wide, sharp, slope, lean, ratio, angleOf, turned, finiteAtan2, side, insideArcCosine}
 use Rattle.arcs.specs.Wedges.{signBit, ArcCosine}
 use Rattle.arcs.proofs.Numbers.{value-is, value-over}
 use Rattle.arcs.proofs.Places.{G, G-pos}
@@ -35,7 +35,7 @@ pub at-most-one : (q : Float) → T (fits binary32 q) → T (permits arcCosineAr
 at-most-one q f h = permitted-mag arcCosineArgument 0 unity unity 0 arc-cosine-argument-ends unity (le-of-eq (zero-add unity)) (le-of-eq (add-zero unity)) q f h
 
 at-one : turned false (angleOf false (2 ^ 149) 0) ≡ fin false 0 (pos 0)
-unfolding partOf ratio angle wide sharp slope lean arcTangent turned units size
+unfolding ratio angle wide sharp slope lean arcTangent turned units size
 at-one = refl
 
 module _ (q : Float) (f : T (fits binary32 q)) (h : T (permits arcCosineArgument q)) where

@@ -14,7 +14,7 @@ use Rattle.units.proofs.Patterns.{one-value}
 use Rattle.series.specs.Fractions.{Fraction, _÷_, whole, negative, signed, _≋_, _≼_, value}
 use Rattle.series.proofs.Fractions.{same-sym, same-trans, negative-same, le-same}
 use Rattle.arc_rows.specs.ArcTangent.{arcTangent}
-use Rattle.arcs.specs.How.{angle, wide, sharp, slope, lean, partOf, ratio, angleOf, turned, finiteAtan2}
+use Rattle.arcs.specs.How.{angle, wide, sharp, slope, lean, ratio, angleOf, turned, finiteAtan2}
 use Rattle.arcs.specs.Wedges.{P, signBit, IsZero, Angle, Atan2}
 use Rattle.arcs.proofs.Numbers.{value-is, value-over, signed-same}
 use Rattle.arcs.proofs.Places.{G, G-pos}
@@ -95,7 +95,7 @@ zero-units x f h e =
         plain g = omega arith
 
 pub zero-angle : (s : Bool) → angleOf s 0 0 ≡ cond s 13176795 0
-unfolding angle wide sharp slope lean arcTangent ratio partOf size
+unfolding angle wide sharp slope lean arcTangent ratio size
 zero-angle true = refl
 zero-angle false = refl
 

@@ -2,11 +2,11 @@
 use Prim.Native.Nat.{ℕ, _+_, _*_, _-_, _%_, _≤_, _<_}
 use mathlib.Core.Path.{_≡_, refl, sym, ap, _∙_, subst}
 use mathlib.Core.Logic.{inl, inr}
-use native.Mathlib.Nat.{mul-le-mul, mul-le-mul-left, mul-le-mul-right}
+use native.Mathlib.Nat.{mul-pos, mul-le-mul, mul-le-mul-left, mul-le-mul-right}
 use native.Mathlib.Omega.{arith}
-use Rattle.series.proofs.Order.{here-or-on}
+use Rattle.series.proofs.Order.{here-or-on, squares}
 use Rattle.series.proofs.Grid.{sp, sm, cp, cm, D}
-use Rattle.series.proofs.Bounded.{cp-le, cm-le}
+use Rattle.series.proofs.Circle.{pyth-up}
 use Rattle.arc_rows.specs.ArcTangent.{arcTangent}
 use Rattle.arc_rows.proofs.Rows.{Ahead, Behind, a·, b·, row-direction, row-ahead, row-behind, row-size, first-angle, first-a, first-b}
 use Rattle.arcs.specs.How.{place, straight, bend, slope}
@@ -120,28 +120,57 @@ module _ (u v k x y z₀ z : ℕ) (h : u ≤ v) (S : Split u v k x y z₀) (N : 
   within = omega (arith, row-size k (S .k-lt), N .least)
 
 -- ---- from (2 ^ 25, w) to the (v, u) whose ratio w is
--- w is 2 ^ 25 u / v, but for 3
+-- w is 2 ^ 25 u / v, but for 5
 pub record Ratio (u v w : ℕ) : Type 0 where
   pub small : w ≤ 33554432
-  pub up : w * v ≤ 33554432 * u + 2 * v
-  pub low : 33554432 * u ≤ w * v + 3 * v
+  pub up : w * v ≤ 33554432 * u + 4 * v
+  pub low : 33554432 * u ≤ w * v + 5 * v
+
+-- C is at most 9/8 in size
+short : (c c' s s' d : ℕ) → 1125899906842624 * (c * c + c' * c' + (s * s + s' * s')) ≤ 1125899906842624 * (2 * (c * c') + 2 * (s * s')) + 1125899906842625 * (d * d) → 8 * c ≤ 8 * c' + 9 * d
+short c c' s s' d h =
+    elim (here-or-on (8 * c' + 9 * d) (8 * c)) [
+      | inl g ↦
+          let i = c - c' in
+          let e : c ≡ c' + i = omega arith in
+          let l : 9 * d ≤ 8 * i = omega arith in
+          let k : 0 < i = omega arith in
+          absurd (none i (one i (subst (λ (z : ℕ). 1125899906842624 * (z * z + c' * c' + (s * s + s' * s')) ≤ 1125899906842624 * (2 * (z * c') + 2 * (s * s')) + 1125899906842625 * (d * d)) e h)) (mul-le-mul l l) (mul-pos k k))
+      | inr g ↦ g
+    ]
+  where
+    one : (i : ℕ) → 1125899906842624 * ((c' + i) * (c' + i) + c' * c' + (s * s + s' * s')) ≤ 1125899906842624 * (2 * ((c' + i) * c') + 2 * (s * s')) + 1125899906842625 * (d * d) → 1125899906842624 * (i * i) ≤ 1125899906842625 * (d * d)
+    one i g = omega (arith, squares s s')
+
+    none : (i : ℕ) → 1125899906842624 * (i * i) ≤ 1125899906842625 * (d * d) → (9 * d) * (9 * d) ≤ (8 * i) * (8 * i) → 0 < i * i → ⊥
+    none i g f k = omega arith
+
+cp-short : (n : ℕ) → n ≤ 4294967296 → 8 * cp n ≤ 8 * cm n + 9 * D
+cp-short n h = short (cp n) (cm n) (sp n) (sm n) D (pyth-up n h)
+
+cm-short : (n : ℕ) → n ≤ 4294967296 → 8 * cm n ≤ 8 * cp n + 9 * D
+cm-short n h = short (cm n) (cp n) (sp n) (sm n) D (turn (cp n) (cm n) (sp n) (sm n) D (pyth-up n h))
+  where
+    turn : (c c' s s' d : ℕ) → 1125899906842624 * (c * c + c' * c' + (s * s + s' * s')) ≤ 1125899906842624 * (2 * (c * c') + 2 * (s * s')) + 1125899906842625 * (d * d)
+        → 1125899906842624 * (c' * c' + c * c + (s * s + s' * s')) ≤ 1125899906842624 * (2 * (c' * c) + 2 * (s * s')) + 1125899906842625 * (d * d)
+    turn c c' s s' d g = omega arith
 
 -- u (a - a') + 10 * 2 ^ -25 v D ≤ v (b - b')
 abbrev pub Past : ℕ → ℕ → ℕ → ℕ → ℕ → ℕ → Type 0
 Past u v a a' b b' = 33554432 * (u * a + v * b') + 10 * (v * D) ≤ 33554432 * (u * a' + v * b)
 
-carried : (u v w a a' b b' : ℕ) → Ratio u v w → a ≤ a' + 2 * D → a' ≤ a + 2 * D → Over w 33554432 a a' b b' → Past u v a a' b b'
+carried : (u v w a a' b b' : ℕ) → Ratio u v w → 8 * a ≤ 8 * a' + 9 * D → 8 * a' ≤ 8 * a + 9 * D → Over w 33554432 a a' b b' → Past u v a a' b b'
 carried u v w a a' b b' r p q o = elim (here-or-on a a') [
   | inl g ↦ less D (a' - a) a' (omega arith) (omega arith) o
   | inr g ↦ more D (a - a') a (omega arith) (omega arith) o
 ]
   where
-    less : (d i c : ℕ) → c ≡ a + i → i ≤ 2 * d → 2097152 * (w * a + 33554432 * b') + 33554432 * d ≤ 2097152 * (w * c + 33554432 * b) → 33554432 * (u * a + v * b') + 10 * (v * d) ≤ 33554432 * (u * c + v * b)
+    less : (d i c : ℕ) → c ≡ a + i → 8 * i ≤ 9 * d → 2097152 * (w * a + 33554432 * b') + 33554432 * d ≤ 2097152 * (w * c + 33554432 * b) → 33554432 * (u * a + v * b') + 10 * (v * d) ≤ 33554432 * (u * c + v * b)
     less d i c e f h =
         let h1 : w * a + 33554432 * b' + 16 * d ≤ w * c + 33554432 * b = omega arith in
         omega (arith, mul-le-mul-left v h1, mul-le-mul-right i (r .up), mul-le-mul-left v f, ap (λ (n : ℕ). u * n) e, ap (λ (n : ℕ). v * w * n) e)
 
-    more : (d i c : ℕ) → c ≡ a' + i → i ≤ 2 * d → 2097152 * (w * c + 33554432 * b') + 33554432 * d ≤ 2097152 * (w * a' + 33554432 * b) → 33554432 * (u * c + v * b') + 10 * (v * d) ≤ 33554432 * (u * a' + v * b)
+    more : (d i c : ℕ) → c ≡ a' + i → 8 * i ≤ 9 * d → 2097152 * (w * c + 33554432 * b') + 33554432 * d ≤ 2097152 * (w * a' + 33554432 * b) → 33554432 * (u * c + v * b') + 10 * (v * d) ≤ 33554432 * (u * a' + v * b)
     more d i c e f h =
         let h1 : w * c + 33554432 * b' + 16 * d ≤ w * a' + 33554432 * b = omega arith in
         omega (arith, mul-le-mul-left v h1, mul-le-mul-right i (r .low), mul-le-mul-left v f, ap (λ (n : ℕ). u * n) e, ap (λ (n : ℕ). v * w * n) e)
@@ -164,12 +193,12 @@ first u v w r =
     record {
       past = λ d n p q e.
           let l : n ≤ 4294967296 = omega arith in
-          carried u v w (cp n) (cm n) (sp n) (sm n) r (cp-le n l) (cm-le n l) (past-it w 33554432 k (4294967296 + k * w) (128 * (w % 262144)) (quotient w) z (r .small) S N d n p q e);
+          carried u v w (cp n) (cm n) (sp n) (sm n) r (cp-short n l) (cm-short n l) (past-it w 33554432 k (4294967296 + k * w) (128 * (w % 262144)) (quotient w) z (r .small) S N d n p q e);
       before = λ d n p q e.
           let l : n ≤ 4294967296 = omega arith in
-          carried u v w (cm n) (cp n) (sm n) (sp n) r (cm-le n l) (cp-le n l) (before-it w 33554432 k (4294967296 + k * w) (128 * (w % 262144)) (quotient w) z (r .small) S N d n p q e);
+          carried u v w (cm n) (cp n) (sm n) (sp n) r (cm-short n l) (cp-short n l) (before-it w 33554432 k (4294967296 + k * w) (128 * (w % 262144)) (quotient w) z (r .small) S N d n p q e);
       beyond = λ d n p q e.
           let l : n ≤ 4294967296 = omega arith in
-          carried u v w (cm n) (cp n) (sp n) (sm n) r (cm-le n l) (cp-le n l) (beyond-it w 33554432 k (4294967296 + k * w) (128 * (w % 262144)) (quotient w) z (r .small) S N d n p q e);
+          carried u v w (cm n) (cp n) (sp n) (sm n) r (cm-short n l) (cp-short n l) (beyond-it w 33554432 k (4294967296 + k * w) (128 * (w % 262144)) (quotient w) z (r .small) S N d n p q e);
       reach = b;
     }

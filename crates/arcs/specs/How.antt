@@ -47,18 +47,15 @@ wide steep left w = cond left (half - sharp steep w) (sharp steep w)
 unfoldable pub angle : Bool → Bool → ℕ → ℕ
 angle steep left w = (wide steep left w + 128) / 256
 
--- ---- the angle of (x, y), or of (-x, y): the smaller side over the larger as an f32 has it, in units of 2 ^ -25 and cut
+-- ---- the angle of (x, y), or of (-x, y): the smaller side over the larger as an f32 has it, with 1 before it, so that 23 digits are left; in units of 2 ^ -25
 abbrev pub smaller : ℕ → ℕ → ℕ
 smaller x y = cond (ltb x y) x y
 
 abbrev pub larger : ℕ → ℕ → ℕ
 larger x y = cond (ltb x y) y x
 
-unfoldable pub partOf : ℕ → ℕ
-partOf n = n / 2 ^ 124
-
 unfoldable pub ratio : ℕ → ℕ → ℕ
-ratio u v = partOf (rounded u v)
+ratio u v = (rounded (unity + rounded u v) unity - unity) / 2 ^ 124
 
 -- u and v are finite and not negative, u is at most v, and v is not zero
 pub record Sorted (u v : Float) : Type 0 where
