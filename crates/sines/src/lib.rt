@@ -18,11 +18,10 @@ pub fn sine(x: f32) -> Answer
     ensures exact { λ r. ⌜ told r ≡ sineTold x ⌝ }
     ensures band { λ r. ⌜ ((y : Float) → r ≡ Value y → SineOf x y) ⌝ }
 {
-    let n = door::refused(limits::sine_argument(), x);
-    if n == 0 {
+    if door::is_permitted(limits::sine_argument(), x) {
         Answer::Value(core::inside_sine(x))
     } else {
-        Answer::Refused(n)
+        Answer::Refused(door::outside(door::is_finite(x)))
     }
 }
 
@@ -31,10 +30,9 @@ pub fn cosine(x: f32) -> Answer
     ensures exact { λ r. ⌜ told r ≡ cosineTold x ⌝ }
     ensures band { λ r. ⌜ ((y : Float) → r ≡ Value y → CosineOf x y) ⌝ }
 {
-    let n = door::refused(limits::sine_argument(), x);
-    if n == 0 {
+    if door::is_permitted(limits::sine_argument(), x) {
         Answer::Value(core::inside_cosine(x))
     } else {
-        Answer::Refused(n)
+        Answer::Refused(door::outside(door::is_finite(x)))
     }
 }
