@@ -21,7 +21,7 @@ ENTRIES = {
     "absolute": "numbers/magnitude_keeps_the_sign numbers/zero_keeps_its_sign",
     "min": "numbers/min_gives_the_second numbers/min_takes_them_the_other_way_round",
     "max": "numbers/max_gives_the_second numbers/max_takes_them_the_other_way_round",
-    "square_root": "roots/entry_refuses_2_whatever_it_was roots/entry_root_of_the_opposite roots/core_rounds_down",
+    "square_root": "roots/entry_takes_a_large_number_for_infinite roots/entry_root_of_the_opposite roots/core_rounds_down",
     "sine": "sines/sine_sign_lost sines/sine_rounds_askew sines/narrow_sine_band",
     "cosine": "sines/cosine_of_zero_is_zero sines/cosine_swaps_the_pair",
     "arc_cosine": "arcs/lost_sign_of_q arcs/root_of_another_number arcs/narrow_wedge",

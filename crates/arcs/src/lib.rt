@@ -34,11 +34,10 @@ pub fn arc_cosine(q: f32) -> Answer
     ensures exact { λ r. ⌜ told r ≡ arcCosineTold q ⌝ }
     ensures band { λ r. ⌜ ((a : Float) → r ≡ Value a → ArcCosineOf q a) ⌝ }
 {
-    let n = door::refused(limits::arc_cosine_argument(), q);
-    if n == 0 {
+    if door::is_permitted(limits::arc_cosine_argument(), q) {
         Answer::Value(core::inside_arc_cosine(q))
     } else {
-        Answer::Refused(n)
+        Answer::Refused(door::outside(door::is_finite(q)))
     }
 }
 

@@ -1,9 +1,12 @@
 -- What is permitted is finite. So one pass of comparisons lets good numbers through, and only where it fails a second tells refusal 1 from 2. Assumes nothing.
-use mathlib.Core.Path.{_≡_, refl, sym}
+use mathlib.Core.Path.{_≡_, refl, sym, ap, _∙_}
 use mathlib.Core.Bool.{Bool, true, false, _&&_, true≢false}
+use mathlib.Core.List.{[], _∷_}
+use Prim.Native.Nat.{ℕ}
+use lib.Dec.{eqb}
 use lib.Ieee.{Float, nan, inf, fin, lt, eq, le}
 use Rattle.numbers.specs.Told.{choose}
-use Rattle.numbers.specs.Door.{finite, within, permits, FiniteEnds, unless, either}
+use Rattle.numbers.specs.Door.{finite, within, permits, FiniteEnds, unless, either, firstOf}
 use Rattle.numbers.specs.declared.door.Limit.{Limit}
 
 -- ---- the refusal by one pass
@@ -38,3 +41,21 @@ both {a} {b} {c} {d} f g h = go a f h
     go : (a : Bool) → (a ≡ true → c ≡ true) → (a && b) ≡ true → (c && d) ≡ true
     go true f h = simp (f refl, g h)
     go false f h = absurd (true≢false (sym h))
+
+-- ---- one number: what is permitted is not refused, and what is not is refused with the number that `outside` gives
+abbrev pub refusal : Limit → Float → ℕ
+refusal l x = firstOf (unless (finite x) 1 ∷ unless (permits l x) 2 ∷ [])
+
+pub taken : (l : Limit) → FiniteEnds l → (x : Float) → permits l x ≡ true → refusal l x ≡ 0
+taken l e x h = sym (let-through (in-row l e x h) h)
+
+pub turned-away : (l : Limit) (x : Float) (n : ℕ) → permits l x ≡ false → n ≡ choose (finite x) 2 1 → (refusal l x ≡ n) × (eqb n 0 ≡ false)
+turned-away l x n h e = (sym (e ∙ kept-out (finite x) (permits l x) h), ap (λ (k : ℕ). eqb k 0) e ∙ some (finite x))
+  where
+    some : (b : Bool) → eqb (choose b 2 1) 0 ≡ false
+    some true = refl
+    some false = refl
+
+-- the test that the door made is that of the row
+pub tested : (r l : Limit) (x : Float) (b : Bool) → l ≡ r → b ≡ permits l x → b ≡ permits r x
+tested r l x b e g = g ∙ ap (λ (k : Limit). permits k x) e

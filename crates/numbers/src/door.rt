@@ -2,7 +2,7 @@
 ghost use mathlib.Core.Path.{_≡_};
 ghost use mathlib.Core.List.{[], _∷_};
 ghost use Rattle.numbers.specs.Told.{choose};
-ghost use Rattle.numbers.specs.Door.{finite, permits, FiniteEnds, unless, either, firstOf};
+ghost use Rattle.numbers.specs.Door.{finite, permits, unless, either, firstOf};
 
 // Two ends, both permitted.
 pub struct Limit {
@@ -26,23 +26,11 @@ pub fn is_permitted(limit: Limit, x: f32) -> bool
 }
 
 // Why numbers that are not all permitted are turned away: 2, or 1 where they are not even all finite.
+// What lies between two finite ends is finite, so that the test of the row alone lets numbers through.
 pub fn outside(all_finite: bool) -> u32
     ensures { λ r. ⌜ r ≡ choose «all_finite» 2 1 ⌝ }
 {
     if all_finite { 2 } else { 1 }
-}
-
-// Why x is turned away: 1 for a NaN or an infinity, 2 outside the limit; 0 where it is taken. What
-// lies between two finite ends is finite, so that one test lets it through.
-pub fn refused(limit: Limit, x: f32) -> u32
-    requires { ⌜ FiniteEnds limit ⌝ }
-    ensures { λ r. ⌜ r ≡ firstOf (unless (finite x) 1 ∷ unless (permits limit x) 2 ∷ []) ⌝ }
-{
-    if is_permitted(limit, x) {
-        0
-    } else {
-        outside(is_finite(x))
-    }
 }
 
 // The refusal's number where the test fails, else 0.

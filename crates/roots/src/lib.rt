@@ -17,10 +17,9 @@ pub fn square_root(x: f32) -> Answer
     ensures exact { λ r. ⌜ told r ≡ squareRootTold x ⌝ }
     ensures closest { λ r. ⌜ ((y : Float) → r ≡ Value y → RootOf x y) ⌝ }
 {
-    let n = door::refused(limits::root_argument(), x);
-    if n == 0 {
+    if door::is_permitted(limits::root_argument(), x) {
         Answer::Value(core::square_root(x))
     } else {
-        Answer::Refused(n)
+        Answer::Refused(door::outside(door::is_finite(x)))
     }
 }

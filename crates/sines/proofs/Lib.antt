@@ -8,4 +8,3 @@ mod Turn
 mod Whole
 pub mod Sharp
 pub mod Bands
-mod Refusals
