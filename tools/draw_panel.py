@@ -50,6 +50,12 @@ class Panel:
         places = " L".join("{:.1f} {:.1f}".format(*self.at(x, y)) for x, y in points)
         self.out.append(f'<path d="M{places}" stroke="{colour}" fill="none" {more or "stroke-width=" + chr(34) + "2" + chr(34)}/>')
 
+    def arrow(self, start, end, colour):
+        """The head of an arrow at `end`, as one comes from `start`."""
+        (x0, y0), (x, y) = self.at(*start), self.at(*end)
+        turn = math.degrees(math.atan2(y - y0, x - x0))
+        self.out.append(f'<path d="M-9 -5L3 0L-9 5Z" fill="{colour}" transform="translate({x:.1f} {y:.1f}) rotate({turn:.1f})"/>')
+
     def dot(self, x, y, colour, radius=3.5, more=""):
         x, y = self.at(x, y)
         self.out.append(f'<circle cx="{x:.1f}" cy="{y:.1f}" r="{radius}" fill="{colour}" {more}/>')

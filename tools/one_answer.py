@@ -1,14 +1,18 @@
 #!/usr/bin/env python3
-"""one_answer.py > crates/house/proofs/OneAnswer.antt: for every public function of the rooms' lib, core and patterns a law that no second answer fits its contract."""
-import os
+"""one_answer.py [--check]
+Writes crates/gathered/proofs/OneAnswer.antt: for every public function of every public module of the rooms that the face
+is made of, a law that no second answer fits its contract. Stops at the first function whose contract settles no answer,
+and names it. With --check it writes nothing, and fails where the file is not what it would write."""
 import re
 import sys
+from collections import namedtuple
 
-ROOT = os.path.join(os.path.dirname(os.path.abspath(__file__)), "..", "crates")
-ROOMS = "numbers roots sines arcs legs rows moves walks commands steps planner joints".split()
-FILES = [("lib.rt", ""), ("patterns.rt", "patterns."), ("core.rt", "core.")]
+import rooms
 
-# A relation settles its count, and what equates a record's fields settles the record.
+MADE = "crates/gathered/proofs/OneAnswer.antt"
+ROOMS = rooms.shown()
+
+# What settles a contract that is no equation: a walk's least count, and records that are given by their fields.
 BY_HAND = {
     "sines-core-sine-and-cosine": "i a b p q = same-turn a b (p .0 ∙ sym (q .0)) (p .1 ∙ sym (q .1))",
     "walks-walk": "i a b p q = walks-one.walk-settled (i .0) a b (i .1 .0) (i .1 .1 .0) p q",
@@ -17,18 +21,15 @@ BY_HAND = {
     "walks-core-walk-feet": "i = walks-one.one-count-of-feet (i .0) (i .1 .0) (i .1 .1 .0)",
 }
 
-# A lent row has its law in its own room.
-ELSEWHERE = {"rows-updated-from-selected-legs"}
+# A function that is lent a row has no `Post`. Its contract is one definition of its room's specs/, and the law in its
+# room's proofs/OneAnswer is stated over that definition: both are named here and looked for.
+LENT = {"rows-updated-from-selected-legs": ("UpdateOf", "one-update")}
 
-# Parts of a core that are handed what another part made, and promise something of that alone: the input, where it comes from, and the answer.
-PARTS = {
-    "joints-core-solved-angles": ("Course", "Point", "c ≡ course o y l", "LegAngles"),
-    "joints-core-calculate-ik-for-leg": ("Course", "Point", "c ≡ course o y l", "LegSolved"),
-}
-
-HEAD = """-- No second answer fits: for every entry, and every core behind one, what comes in settles what goes out, refusals included. Each law is stated over the
--- function's own contract, as the checker has it (`Post`): what is passed, the answer, and what the caller holds at the end. One general law serves all
--- (`one-answer`): a contract that is an equation of what is told, where telling loses nothing. Made by tools/one_answer.py."""
+HEAD = """-- No second answer fits: for every public function of the rooms that the face is made of, and of their public modules, what comes in settles what goes out,
+-- refusals included. Each law is stated over the function's own contract, as the checker has it (`Post`): what is passed, the answer, and what the caller
+-- holds at the end. One general law serves all (`one-answer`): a contract that is an equation of what is told, where telling loses nothing.
+-- Not here: `updated_from_selected_legs`, whose law is `one-update` (rows/proofs/OneAnswer), and the printer's rooms, which no face shows.
+-- Made by tools/one_answer.py."""
 
 LAWS = """
 -- no two answers meet the contract C
@@ -47,17 +48,10 @@ same-turn a b s c = ap₂ turn s c
     turn x y = record { sine = x; cosine = y }"""
 
 USES = """use lib.Ieee.{Float}
-use Rattle.legs.specs.declared.Point.{Point}
-use Rattle.legs.specs.declared.LegAngles.{LegAngles}
-use Rattle.sines.specs.declared.core.Turn.{Turn}
-use Rattle.joints.specs.Inverse.{course}
-use Rattle.joints.specs.declared.configuration.Body.{Body}
-use Rattle.joints.specs.declared.configuration.LegConfiguration.{LegConfiguration}
-use Rattle.joints.specs.declared.core.Course.{Course}
-use Rattle.joints.specs.declared.core.LegSolved.{LegSolved}"""
+use Rattle.sines.specs.declared.core.Turn.{Turn}"""
 
 
-def tellers(text, room):
+def tellers(text):
     """Each name of a `told` in this file, with the room that defines it and its name there."""
     found = {}
     for of, names in re.findall(r"ghost use Rattle·(\w+)(?:·specs\.specs|\.specs)\.Answers\.\{([^}]*)\}", text):
@@ -67,59 +61,70 @@ def tellers(text, room):
     return found
 
 
-def functions(room):
-    """The path of each public function, and how its contract settles the answer."""
-    for file, module in FILES:
-        path = os.path.join(ROOT, room, "src", file)
-        if not os.path.exists(path):
-            continue
-        with open(path, encoding="utf-8") as f:
-            text = f.read()
-        told, within = tellers(text, room), ""
-        for kind, name, rest in re.findall(r"^(impl| *pub fn) (\w+)((?:(?!^ *(?:pub )?fn |^impl ).*\n)*)", text, flags=re.M):
-            if kind == "impl":
-                within = name + "."
-                continue
-            ensures = re.search(r"ensures( exact)? \{ λ \w+\. ⌜ (?:\(?(\w+) )?r ≡", rest)
-            label = f"{room}-{(module + within if kind.startswith(' ') else module)}{name}".replace("patterns.", "").replace(".", "-").replace("_", "-")
-            if label in ELSEWHERE:
-                continue
-            yield module + (within if kind.startswith(" ") else "") + name, label, law(label, ensures, told)
+# A public function: its name, where its contract is, its name in the file, and how the contract settles the answer.
+Law = namedtuple("Law", "function contract label body")
 
 
-def law(label, ensures, told):
-    if label in BY_HAND or label in PARTS:
-        return BY_HAND.get(label)
-    if not ensures:
-        sys.exit(f"{label}: its contract is no equation")
-    of, name = told.get(ensures.group(2), ("", ""))
-    settles = f"one-answer {of}.{name} {of}-one.{name}-loses-nothing" if of else "one-value"
-    return f"i a b p q = {settles} a b (p .0) (q .0)" if ensures.group(1) else f"i = {settles}"
+def laws(room):
+    """The law of each public function of the room."""
+    for module in rooms.public_modules(room):
+        text = rooms.source(room, module)
+        told = tellers(text)
+        for function in rooms.functions(text):
+            path = [p for p in (*module, function.owner, function.name) if p]
+            label = "-".join([room] + path).replace("_", "-")
+            name = "::".join([room] + path)
+            if function.public and label in LENT:
+                lent(room, label, name, function)
+            elif function.public:
+                yield Law(name, ".".join(path), label, BY_HAND.get(label) or settled(name, function.clauses, told))
 
 
-def stated(label, body):
-    if label not in PARTS:
-        return f"pub settled-{label} : Settled ({label}.Post tt)\nsettled-{label} {body}"
-    taken, origin, made, answered = PARTS[label]
-    meets = f"{label}.Post tt (c, (y, (l, tt))) {{}} (c, (y, (l, tt)))"
-    return (
-        f"pub settled-{label} : (o : {origin}) (c : {taken}) (y : Body) (l : LegConfiguration) (a b : {answered}) → {made} → {meets.format('a')} → {meets.format('b')} → a ≡ b\n"
-        f"settled-{label} o c y l a b e p q = p o e ∙ sym (q o e)"
-    )
+def settled(name, clauses, told):
+    equation = clauses and re.match(r"(?:(\w+) )?" + clauses[0].answer + " ≡", clauses[0].said)
+    if not equation or equation[1] and equation[1] not in told:
+        sys.exit(f"one_answer.py: {name}: no law of one answer, since its contract is no equation of what is told")
+    law = "one-value"
+    if equation[1]:
+        of, teller = told[equation[1]]
+        law = f"one-answer {of}.{teller} {of}-one.{teller}-loses-nothing"
+    return f"i a b p q = {law} a b (p .0) (q .0)" if len(clauses) > 1 else f"i = {law}"
 
 
-every = {room: list(functions(room)) for room in ROOMS}
-telling = [r for r in ROOMS if any(f" {r}.told" in (l or "") for fs in every.values() for _, _, l in fs)]
-print(HEAD)
-print("use mathlib.Core.Path.{_≡_, sym, ap, ap₂, _∙_}\nuse Rattle.numbers.proofs.OneAnswer.{one-answer}")
-print(USES)
-for room in telling:
-    print(f"use Rattle.{room}.specs.Answers as {room}\nuse Rattle.{room}.proofs.OneAnswer as {room}-one")
-print("use Rattle.walks.proofs.OneAnswer as walks-one")
-for room in ROOMS:
-    for path, label, _ in every[room]:
-        print(f"use Rattle.{room}.proofs.{path}.Reads as {label}")
-print(LAWS)
-for room in ROOMS:
-    print(f"\n-- ---- {room}")
-    print("\n\n".join(stated(label, body) for _, label, body in every[room]))
+def lent(room, label, name, function):
+    """The contract of a function that is lent a row is the definition of which its room has the law."""
+    definition, law = LENT[label]
+    stated = re.search(rf"^pub {law} :(.*?)^{law} ", rooms.read(room, "proofs", "OneAnswer.antt"), flags=re.M | re.S)
+    contract = [clause.said.split()[0] for clause in function.clauses]
+    if contract != [definition] or not stated or definition not in stated[1].split():
+        sys.exit(f"one_answer.py: {name}: no law of one answer: its contract is to be `{definition}`, and {law} over that")
+
+
+def made(every):
+    telling = [room for room in ROOMS if any(f" {room}.told" in law.body for laws in every.values() for law in laws)]
+    yield HEAD
+    yield "use mathlib.Core.Path.{_≡_, sym, ap, ap₂, _∙_}\nuse Rattle.numbers.proofs.OneAnswer.{one-answer}"
+    yield USES
+    for room in telling:
+        yield f"use Rattle.{room}.specs.Answers as {room}\nuse Rattle.{room}.proofs.OneAnswer as {room}-one"
+    yield "use Rattle.walks.proofs.OneAnswer as walks-one"
+    for room in ROOMS:
+        for law in every[room]:
+            yield f"use Rattle.{room}.proofs.{law.contract}.Reads as {law.label}"
+    yield LAWS
+    for room in ROOMS:
+        yield f"\n-- ---- {room}"
+        yield "\n\n".join(f"pub settled-{l.label} : Settled ({l.label}.Post tt)\nsettled-{l.label} {l.body}" for l in every[room])
+
+
+def missing(every):
+    """The functions of which the file has no law."""
+    text = rooms.read("gathered", "proofs", "OneAnswer.antt")
+    return [law.function for laws in every.values() for law in laws if f"\npub settled-{law.label} :" not in text]
+
+
+if __name__ == "__main__":
+    every = {room: list(laws(room)) for room in ROOMS}
+    for function in missing(every) if "--check" in sys.argv[1:] else []:
+        print(f"one_answer.py: {function}: no law of one answer", file=sys.stderr)
+    rooms.keep(MADE, "\n".join(made(every)) + "\n")

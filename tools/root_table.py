@@ -15,13 +15,13 @@ def nearest_root(n):
     return (isqrt(4 * n) + 1) // 2
 
 
-def place(half):
+def radicand_at(half):
     """The radicand at a half of a row, times 2^16, counted in halves from the first row's start."""
     return (128 + half + max(0, half - 128)) << 55
 
 
 def arc(row):
-    start, middle, end = (nearest_root(place(2 * row + half)) for half in range(3))
+    start, middle, end = (nearest_root(radicand_at(2 * row + half)) for half in range(3))
     bend = 4 * middle - 2 * (start + end)
     return start, end - start + bend, bend
 

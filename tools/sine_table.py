@@ -32,7 +32,8 @@ pub fn entry(j: u32) -> Eighths
 }
 """
 
-PROOF = """-- `sines::table::entry` meets its contract: each arm holds what the rule gives at its place, and no place is left. Made by tools/sine_table.py.
+PROOF = """-- `sines::table::entry` meets its contract: each arm holds what the rule gives at its place, and no place is left.
+-- Made by tools/sine_table.py.
 use Rattle.series.proofs.Tables.{covered}
 use Rattle.sines.proofs.Entries.{right, arm}
 use Rattle.sines.proofs.table.entry.Statement.{statement}
@@ -42,7 +43,9 @@ use Rattle.sines.proofs.table.entry.Tie as tie
 returns-130 c = absurd (covered 129 (c .before .args .j) (c .match .rest) (c .before .pre))
 
 pub entry-spec : {M : Type 1} → statement M
-entry-spec = tie.close (tie.spec %s)
+entry-spec =
+    tie.close
+    (tie.spec%s)
 """
 
 
@@ -68,4 +71,5 @@ def write(path, text):
 arms = "".join("        %d => Eighths(0x%08x, 0x%08x),\n" % (j, entry(j, 1), entry(j, 0)) for j in range(PLACES))
 write("src/table.rt", CODE % arms)
 laws = "".join("%s : tie.Need-%s\nunfolding right\n%s c = arm %d (tt, tt) (c .match .keys%d)\n\n" % (need(k), need(k), need(k), k, k + 1) for k in range(PLACES))
-write("proofs/table/entry/Proof.antt", PROOF % (laws, " ".join(need(k) for k in range(PLACES + 1))))
+rows = "".join("\n    " + " ".join(need(k) for k in range(i, min(i + 10, PLACES + 1))) for i in range(0, PLACES + 1, 10))
+write("proofs/table/entry/Proof.antt", PROOF % (laws, rows))

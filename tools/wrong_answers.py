@@ -1,125 +1,147 @@
 #!/usr/bin/env python3
-"""wrong_answers.py > docs/WRONG_ANSWERS.md: the wrong answers that the contracts rule out, from every room's must-fail/. Fails where an entry has fewer than two."""
+"""wrong_answers.py [--check]
+Writes docs/WRONG_ANSWERS.md: the wrong answers that the contracts rule out, from every room's must-fail/. An edit file says
+whose answers it changes (`entry: NAME NAME ..`), and which of document 01's wrong answers it is (`named: ..`), if one. Fails,
+and names it, where an entry of the face has fewer than two edits. With --check it writes nothing, and also fails where the
+page is not what it would write."""
 import os
 import sys
+from collections import namedtuple
 
-ROOT = os.path.join(os.path.dirname(os.path.abspath(__file__)), "..", "crates")
+import rooms
 
-# The five that document 01 names, under "How tight each promise is".
-NAMED = {
-    "a build that only refuses": "numbers/only_refuses",
-    "one constant foot": "moves/constant_foot",
-    "a foot left standing and called moved": "moves/standing_called_moved",
-    "a walk that repeats its first step": "walks/repeats_its_first_step",
-    "an invented count": "walks/invented_count",
-}
+PAGE = "docs/WRONG_ANSWERS.md"
 
-# The entries of docs/API.md, each with edits that change its answer, in its own text or in what it calls.
-SHARED_STEP = "moves/constant_foot moves/standing_called_moved moves/target_is_not_looked_at"
-SHARED_NEXT = "steps/the_standing_three_are_lifted"
-ENTRIES = {
-    "absolute": "numbers/magnitude_keeps_the_sign numbers/zero_keeps_its_sign",
-    "min": "numbers/min_gives_the_second numbers/min_takes_them_the_other_way_round",
-    "max": "numbers/max_gives_the_second numbers/max_takes_them_the_other_way_round",
-    "square_root": "roots/entry_takes_a_large_number_for_infinite roots/entry_root_of_the_opposite roots/core_rounds_down",
-    "sine": "sines/sine_sign_lost sines/sine_rounds_askew sines/narrow_sine_band",
-    "cosine": "sines/cosine_of_zero_is_zero sines/cosine_swaps_the_pair",
-    "arc_cosine": "arcs/lost_sign_of_q arcs/root_of_another_number arcs/narrow_wedge",
-    "atan2": "arcs/lost_sign_of_y arcs/zeros_swapped",
-    "from_pattern": "numbers/nan_pattern_is_a_number numbers/nan_pattern_is_infinite",
-    "pattern_of": "numbers/infinity_has_no_pattern numbers/nan_has_a_pattern",
-    "as_legs": "legs/row_forgets_a_leg legs/row_in_field_order",
-    "from_legs": "legs/record_forgets_a_leg legs/record_in_field_order",
-    "merge_with": "legs/merge_refuses_2_first legs/merge_takes_another_bit legs/mask_64_is_taken",
-    "selected_legs": "legs/selected_in_field_order legs/selected_skips_a_place legs/mask_64_is_taken",
-    "updated_from_selected_legs": "rows/count_of_ones_is_the_mask rows/seventh_value_is_not_looked_at rows/sixth_leg_is_skipped",
-    "updated_from_first": "rows/all_64_are_lent rows/the_last_of_64_is_left_out",
-    "move_towards": SHARED_STEP,
-    "move_vector_towards": "moves/vector_moves_away " + SHARED_STEP,
-    "move_feet_towards": "moves/flag_forgets_a_foot moves/targets_are_not_looked_at",
-    "to_move_towards_iter": "moves/point_sets_out_from_its_target moves/target_is_not_looked_at",
-    "feet_to_move_towards_iter": "moves/feet_set_out_backwards moves/targets_are_not_looked_at",
-    "MovingPoint::next": "moves/point_iterator_never_stops " + SHARED_STEP,
-    "MovingFeet::next": "moves/flag_forgets_a_foot moves/targets_are_not_looked_at",
-    "longest_distance": "moves/longest_forgets_a_leg moves/distance_without_height",
-    "walk": "walks/arrival_by_bits walks/bound_of_half walks/invented_count walks/repeats_its_first_step",
-    "walk_feet": "walks/a_foot_takes_anothers_step walks/invented_rounds walks/one_foot_unseen",
-    "MoveCommand::default": "commands/another_default_height commands/another_default_time",
-    "MoveCommand::new": "commands/new_lifts_aggressively commands/step_time_refused_as_2",
-    "MoveCommand::with_optional_fields": "commands/the_flag_is_dropped commands/step_time_refused_as_2 commands/sixty_seconds_refused",
-    "MoveCommand::should_move": "commands/epsilon_itself_rests commands/step_time_refused_as_2",
-    "Tripod::invert": "commands/inverted_to_itself commands/rlr_inverted_to_itself",
-    "Tripod::as_flag": "commands/flag_of_the_other_three commands/flag_of_the_left_legs",
-    "timed_progress": "steps/divided_once_by_the_period steps/one_good_time_is_enough",
-    "even_progress": "steps/even_pace_divided_twice steps/one_good_time_is_enough",
-    "StepIterator::step": "steps/last_begins_at_the_target steps/height_is_not_looked_at",
-    "StepIterator::next": "steps/the_state_forgets_its_step steps/height_is_not_looked_at " + SHARED_NEXT,
-    "TimedStepIterator::step": "steps/a_timed_step_begins_at_its_target steps/a_time_refused_as_2",
-    "TimedStepIterator::next": "steps/divided_once_by_the_period steps/a_time_refused_as_2 " + SHARED_NEXT,
-    "EvenStepIterator::step": "steps/a_timed_step_begins_at_its_target steps/a_time_refused_as_2",
-    "EvenStepIterator::next": "steps/even_pace_divided_twice steps/a_time_refused_as_2 " + SHARED_NEXT,
-    "step_with_relaxed_transformation": "planner/minus_sine planner/relaxed_vectors_centred_too planner/the_legs_of_the_other_tripod",
-    "calculate_ik": "joints/90_degrees_is_taken joints/149_for_150_degrees joints/clamp_keeps_nan joints/femur_and_tibia_swapped joints/zero_minus_z",
-    "calculate_fk": "joints/fk_takes_what_is_outside joints/femur_along_the_wrong_axis",
-}
+# Besides the face's functions: the program that reads records, by its name.
+PRINTER = "hopper-walk"
+
+# Functions without parameters are numbers that the face shows; those of one kind are one entry.
+NUMBERS = {"default_step_time": "defaults", "default_step_height": "defaults", "default_step_distance": "defaults"}
+
+# Document 01, "How tight each promise is".
+NAMED = [
+    "a build that only refuses",
+    "one constant foot",
+    "a foot left standing and called moved",
+    "a walk that repeats its first step",
+    "an invented count",
+]
+
+# Document 01, "Slips that look right": the slip, the name of what is tried, and a remark.
+SLIPS = [
+    ("dividing by the period once in the old mode", "dividing by the period once", ""),
+    ("testing arrival by bits, so that -0 and +0 differ", "arrival by bits", ""),
+    (
+        "aggressive height at progress exactly 0.5: the sine applies there",
+        "aggressive height up to another progress",
+        "No edit can show this one: our sine of P / 2 is exactly 1, so that both readings give the same floats there. Tried in its place: ",
+    ),
+    ("centring the relaxed vectors too", "centring the relaxed vectors", ""),
+    ("clamping with comparisons that let NaN through", "a clamp that lets NaN through", ""),
+]
+
+# An edit file: where it stands, whose answers it changes, what it is named, and its changes, each a file, a text and what stands for it.
+Edit = namedtuple("Edit", "room label entries names changes")
 
 
-def edit(path):
-    fields = {}
-    with open(path, encoding="utf-8") as f:
-        for line in f:
-            key, _, text = line.rstrip("\n").partition(": ")
-            fields.setdefault(key, text.strip())
-    return fields
+def edits():
+    for room in sorted(os.listdir(rooms.CRATES)):
+        for path in rooms.files(room, "must-fail"):
+            yield edit(room, path)
+
+
+def edit(room, path):
+    entries, names, changes, file, old = [], [], [], "", ""
+    for line in rooms.read(room, path).split("\n"):
+        key, _, text = line.partition(":")
+        text = text.strip()
+        if key == "entry":
+            entries += [NUMBERS.get(name, name) for name in text.split()]
+        elif key == "named":
+            names.append(text)
+        elif key == "file":
+            file = text
+        elif key == "old":
+            old = text
+        elif key == "new":
+            changes.append((file, old, text))
+    return Edit(room, os.path.basename(path).removesuffix(".edit"), entries, names, changes)
+
+
+def own(room):
+    """The public functions of a room; a program has none."""
+    for module in rooms.public_modules(room) if "src/lib.rt" in rooms.files(room, "src") else []:
+        for function in rooms.functions(rooms.source(room, module)):
+            if function.public:
+                yield f"{function.owner}::{function.name}" if function.owner else function.name
+
+
+def faults(entries, every):
+    for e in every:
+        for name in e.entries:
+            if name not in entries and name not in own(e.room):
+                yield f"{e.room}/{e.label}: there is no entry {name}"
+        for name in e.names:
+            if name not in NAMED and name not in [tried for _, tried, _ in SLIPS]:
+                yield f"{e.room}/{e.label}: document 01 names no {name}"
+        if not e.entries:
+            yield f"{e.room}/{e.label}: it does not say whose answers it changes"
+    for name in entries:
+        found = sum(name in e.entries for e in every)
+        if found < 2:
+            yield f"{name}: fewer than two wrong answers ({found})"
+    for name in NAMED + [tried for _, tried, _ in SLIPS]:
+        if not any(name in e.names for e in every):
+            yield f"{name}: no edit is named so"
 
 
 def code(text):
     return "`" + text.replace("|", "\\|") + "`" if text else "(nothing)"
 
 
-def spoken(name):
-    room, _, label = name.partition("/")
-    return f"{label.replace('_', ' ')} ({room})"
+def spoken(found):
+    return "; ".join(f"{e.label.replace('_', ' ')} ({e.room})" for e in found)
 
 
-def missing():
-    for entry, names in list(ENTRIES.items()) + [(n, e + " " + e) for n, e in NAMED.items()]:
-        found = [n for n in names.split() if os.path.exists(os.path.join(ROOT, n.replace("/", "/must-fail/") + ".edit"))]
-        for n in set(names.split()) - set(found):
-            yield f"{entry}: there is no edit {n}"
-        if len(found) < 2:
-            yield f"{entry}: fewer than two edits"
+def table(*heads):
+    return f"| {' | '.join(heads)} |\n|{'---|' * len(heads)}"
 
 
-print("""# Wrong answers
+def page(entries, every):
+    yield f"""# Wrong answers
 
 What the contracts rule out: each row is an edit of a room's code or of its definitions that `rt ci` tries and that the prover must refuse.
-Made by tools/wrong_answers.py from `crates/*/must-fail`.
+Made by tools/wrong_answers.py from `crates/*/must-fail`, where each edit says whose answers it changes.
 
-## The five that 01 names
+## The five that document 01 names
 
-| wrong answer | edit |
-|---|---|""")
-for name, e in NAMED.items():
-    print(f"| {name} | {spoken(e)} |")
-print("""
+{table("wrong answer", "edits")}"""
+    for name in NAMED:
+        yield f"| {name} | {spoken(e for e in every if name in e.names)} |"
+    yield f"\n## Slips that look right\n\n{table('slip', 'edits')}"
+    for slip, tried, remark in SLIPS:
+        yield f"| {slip} | {remark}{spoken(e for e in every if tried in e.names)} |"
+    yield f"""
 ## By entry
 
-Each entry with edits that change its answer, in its own text or in what it calls.
+Each entry with edits that change its answer, in its own text or in what it calls. `flags` are the fourteen flags of legs, `defaults` the default
+step time, height and distance, and `{PRINTER}` is the walk printer.
 
-| entry | edits |
-|---|---|""")
-for entry, names in ENTRIES.items():
-    print(f"| `{entry}` | {'; '.join(spoken(n) for n in names.split())} |")
-for room in sorted(os.listdir(ROOT)):
-    folder = os.path.join(ROOT, room, "must-fail")
-    if not os.path.isdir(folder):
-        continue
-    print(f"\n## {room}\n\n| wrong answer | where | instead of | this |\n|---|---|---|---|")
-    for name in sorted(os.listdir(folder)):
-        e = edit(os.path.join(folder, name))
-        print(f"| {name.removesuffix('.edit').replace('_', ' ')} | {e.get('file', '')} | {code(e.get('old', ''))} | {code(e.get('new', ''))} |")
-faults = list(missing())
-for fault in faults:
-    print(fault, file=sys.stderr)
-sys.exit(1 if faults else 0)
+{table("entry", "edits")}"""
+    for name in entries:
+        yield f"| `{name}` | {spoken(e for e in every if name in e.entries)} |"
+    for room in sorted({e.room for e in every}):
+        yield f"\n## {room}\n\n{table('wrong answer', 'where', 'instead of', 'this')}"
+        for e in every:
+            for file, old, new in e.changes if e.room == room else []:
+                yield f"| {e.label.replace('_', ' ')} | {file} | {code(old)} | {code(new)} |"
+
+
+if __name__ == "__main__":
+    entries = list(dict.fromkeys(NUMBERS.get(entry.name, entry.name) for entry in rooms.face())) + [PRINTER]
+    every = list(edits())
+    wrong = list(faults(entries, every))
+    for fault in wrong:
+        print(f"wrong_answers.py: {fault}", file=sys.stderr)
+    rooms.keep(PAGE, "\n".join(page(entries, every)) + "\n")
+    sys.exit(1 if wrong else 0)

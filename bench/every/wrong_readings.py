@@ -1,13 +1,13 @@
 #!/usr/bin/env python3
-"""bench/every/wrong_readings.py: shows that bench/every can fail. Puts one wrong reading after the other into a copy of the judge
-and runs it on the library that bench/every/run built. The last line counts those that the answers tell apart."""
+"""wrong_readings.py FOLDER: shows that `bench/run every` can fail. Puts one wrong reading after the other into a copy of the judge
+and runs it on the library that it built in FOLDER. The last line counts those that the answers tell apart."""
 import os
 import subprocess
 import sys
 import tempfile
 
 HERE = os.path.dirname(os.path.abspath(__file__))
-LIBRARY = os.path.join(HERE, "..", "..", "target", "bench")
+LIBRARY = sys.argv[1]
 STATE = "a.is_state(i, pace, [&i.f[..18], ours.as_flattened(), &i.f[36..54]], &i.f[54..56])"
 # what is read wrongly, where, the right words, the wrong ones
 WRONG = [

@@ -1,5 +1,5 @@
 #!/usr/bin/env python3
-"""compare.py OUT RECORDS MEBIBYTES: what bench/printer/run measures."""
+"""compare.py OUT RECORDS MEBIBYTES: what `bench/run printer` measures."""
 import os, random, struct, subprocess, sys, time
 
 out, records, mebibytes = sys.argv[1], int(sys.argv[2]), int(sys.argv[3])

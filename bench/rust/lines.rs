@@ -97,6 +97,119 @@ fn marked(r: Result<(Row, bool), Refusal>, yes: &str, no: &str) -> String {
     told(r, |(f, m)| format!(" {}{}", if m { yes } else { no }, row(&f)))
 }
 
+/// The fields of a command, as a line has them.
+fn command(c: &Command) -> String {
+    float(c.x) + &float(c.y) + &float(c.rotation) + &time(&c.step_time) + &float(c.height) + &format!(" {}", c.aggressive as u8)
+}
+
+fn time(t: &Time) -> String {
+    format!(" {:08x} {:08x}", t.seconds, t.nanoseconds)
+}
+
+fn lift(l: &Lift) -> String {
+    float(l.height) + &float(l.descent) + &format!(" {} {}", (l.lifted == RLR) as u8, l.aggressive as u8)
+}
+
+/// The source's defaults: 600 ms, 0.025 m, 0.03 m.
+const STEP_TIME: Time = Time { seconds: 0, nanoseconds: 600_000_000 };
+const STEP_DISTANCE: f32 = 0.025;
+const STEP_HEIGHT: f32 = 0.03;
+const STANDING: Command = Command { x: 0.0, y: 0.0, rotation: 0.0, step_time: STEP_TIME, height: STEP_HEIGHT, aggressive: false };
+
+/// The source's vector move: the distance is that of last from target.
+fn vector_towards(last: &Point, target: &Point, m: f32) -> Result<(Point, bool), Refusal> {
+    move_towards(last, target, m)?;
+    if last == target {
+        return Ok((*target, false));
+    }
+    let d = distance(target, last);
+    if d <= m {
+        return Ok((*target, true));
+    }
+    let step = |l: f32, t: f32| l + ((t - l) / d) * m;
+    Ok((Point { x: step(last.x, target.x), y: step(last.y, target.y), z: step(last.z, target.z) }, true))
+}
+
+/// The operations that set out, that step a state once, and that take a vector.
+fn on_states(name: &str, f: &mut Fields) -> Parsed<String> {
+    Some(match name {
+        "mvv" | "iter" | "next" => {
+            let (l, t, m) = (f.point()?, f.point()?, f.float()?);
+            f.done()?;
+            match name {
+                "mvv" => told(vector_towards(&l, &t, m), |(p, moved)| format!(" {}{}", if moved { "M" } else { "A" }, point(&p))),
+                "iter" => told(move_towards(&l, &t, m), |_| point(&l) + &point(&t) + &float(m)),
+                _ => told(move_towards(&l, &t, m), |(p, moved)| {
+                    if moved { " M".to_string() + &point(&p) + &point(&p) + &point(&t) + &float(m) } else { " D".to_string() }
+                }),
+            }
+        }
+        "iter6" | "next6" => {
+            let (l, t, m) = (f.row()?, f.row()?, f.float()?);
+            f.done()?;
+            told(move_feet_towards(&l, &t, m), |(p, moved)| match (name, moved) {
+                ("iter6", _) => row(&l) + &row(&t) + &float(m),
+                (_, true) => " M".to_string() + &row(&p) + &row(&p) + &row(&t) + &float(m),
+                _ => " D".to_string(),
+            })
+        }
+        "siter" => {
+            let (s, t) = (f.row()?, f.row()?);
+            let (m, h, tri, b) = (f.float()?, f.float()?, f.tripod()?, f.bit()?);
+            f.done()?;
+            let state = row(&s) + &row(&s) + &row(&t) + &float(m) + &float(h) + &format!(" {} {}", (tri == RLR) as u8, b as u8);
+            told(step(&s, &s, &t, m, h, tri, b), |_| state.clone())
+        }
+        "titer" | "eiter" => {
+            let (s, t) = (f.row()?, f.row()?);
+            let l = Lift { height: f.float()?, descent: f.float()?, lifted: f.tripod()?, aggressive: f.bit()? };
+            let p = f.time()?;
+            f.done()?;
+            let begun = Time { seconds: 0, nanoseconds: 0 };
+            let r = if name == "titer" { timed_step(&s, &s, &t, &l, &begun, &p) } else { even_step(&s, &s, &t, &l, &begun, &p) };
+            told(r, |_| row(&s) + &row(&s) + &row(&t) + &lift(&l) + &time(&p))
+        }
+        _ => return None,
+    })
+}
+
+/// The commands' constructors, the constants, and a float from its bits.
+fn on_commands(name: &str, f: &mut Fields) -> Parsed<String> {
+    Some(match name {
+        "cnew" => {
+            let c = Command { x: f.float()?, y: f.float()?, rotation: f.float()?, ..STANDING };
+            f.done()?;
+            told(should_move(&c), |_| command(&c))
+        }
+        "cwith" => {
+            let c = f.command()?;
+            f.done()?;
+            told(should_move(&c), |_| command(&c))
+        }
+        "cdef" => {
+            f.done()?;
+            "ok".to_string() + &command(&STANDING)
+        }
+        "defaults" => {
+            f.done()?;
+            "ok".to_string() + &time(&STEP_TIME) + &float(STEP_DISTANCE) + &float(STEP_HEIGHT)
+        }
+        "flags" => {
+            f.done()?;
+            let [lf, rf, lm, rm, lr, rr] = WEIGHT;
+            let groups = [lf + rm + lr, rf + lm + rr, rf + rm + rr, lf + lm + lr, rm + lm, lf + rf, lr + rr];
+            let all = [lf, lm, lr, rf, rm, rr].into_iter().chain(groups).chain([lf + lm + lr + rf + rm + rr]);
+            "ok".to_string() + &all.map(|m| format!(" {m:08x}")).collect::<String>()
+        }
+        "bits" => {
+            let x = f.float()?;
+            f.done()?;
+            "ok".to_string() + &float(if x.is_nan() { f32::from_bits(0x7fc0_0000) } else { x })
+        }
+        _ => return on_states(name, f),
+    })
+}
+
 fn answer(line: &str) -> Parsed<String> {
     let mut f = Fields { rest: line.split(' ') };
     let name = f.rest.next()?;
@@ -224,7 +337,7 @@ fn answer(line: &str) -> Parsed<String> {
             let c = [90_f32.to_radians(), (-90_f32).to_radians(), 150_f32.to_radians(), std::f32::consts::PI, f32::EPSILON, 0.03];
             "ok".to_string() + &c.map(float).concat()
         }
-        _ => return None,
+        _ => return on_commands(name, &mut f),
     })
 }
 

@@ -1,4 +1,4 @@
-// The walk printer in plain Rust, for bench/printer/run: the same reading, checks, steps and lines, each walk gone once,
+// The walk printer in plain Rust, for `bench/run printer`: the same reading, checks, steps and lines, each walk gone once,
 // lines by BufRead, output in blocks of 64 KiB.
 use std::io::{self, BufRead, Write};
 

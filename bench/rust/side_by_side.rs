@@ -224,6 +224,12 @@ fn both(name: &str, goal: f64, each: f64, mut ours: impl FnMut(usize), mut their
     println!("{name:26} {:9.2} {:9.2} {ratio:7.2} {goal:6.1}{}", a / each, b / each, if ratio <= goal { "" } else { "  missed" });
 }
 
+// An answer that the compiler must make, though nothing reads it.
+#[inline(always)]
+fn kept<T>(answer: T) {
+    black_box(answer);
+}
+
 fn main() {
     let mut r = Random(0x9e37_79b9_7f4a_7c15);
     println!("{:26} {:>9} {:>9} {:>7} {:>6}", "operation", "ours ns", "Rust ns", "ratio", "goal");
@@ -246,14 +252,14 @@ fn main() {
             v = b * 0.0;
         },
     );
-    both("square root", 2.9, 1.0, |i| unsafe { drop(black_box(ours::probe_square_root(xs[i], &mut a))) }, |i| drop(black_box(theirs::root(xs[i], &mut b))));
+    both("square root", 2.9, 1.0, |i| unsafe { kept(ours::probe_square_root(xs[i], &mut a)) }, |i| kept(theirs::root(xs[i], &mut b)));
     let xs = r.floats(INPUTS, -8.0, 8.0);
-    both("sine", 1.0, 1.0, |i| unsafe { drop(black_box(ours::probe_sine(xs[i], &mut a))) }, |i| drop(black_box(theirs::sin(xs[i], &mut b))));
-    both("cosine", 1.0, 1.0, |i| unsafe { drop(black_box(ours::probe_cosine(xs[i], &mut a))) }, |i| drop(black_box(theirs::cos(xs[i], &mut b))));
+    both("sine", 1.0, 1.0, |i| unsafe { kept(ours::probe_sine(xs[i], &mut a)) }, |i| kept(theirs::sin(xs[i], &mut b)));
+    both("cosine", 1.0, 1.0, |i| unsafe { kept(ours::probe_cosine(xs[i], &mut a)) }, |i| kept(theirs::cos(xs[i], &mut b)));
     let qs = r.floats(INPUTS, -1.0, 1.0);
-    both("arc cosine", 1.1, 1.0, |i| unsafe { drop(black_box(ours::probe_arc_cosine(qs[i], &mut a))) }, |i| drop(black_box(theirs::acos(qs[i], &mut b))));
+    both("arc cosine", 1.1, 1.0, |i| unsafe { kept(ours::probe_arc_cosine(qs[i], &mut a)) }, |i| kept(theirs::acos(qs[i], &mut b)));
     let ys = r.floats(INPUTS, -8.0, 8.0);
-    both("atan2", 1.0, 1.0, |i| unsafe { drop(black_box(ours::probe_atan2(ys[i], xs[i], &mut a))) }, |i| drop(black_box(theirs::angle(ys[i], xs[i], &mut b))));
+    both("atan2", 1.0, 1.0, |i| unsafe { kept(ours::probe_atan2(ys[i], xs[i], &mut a)) }, |i| kept(theirs::angle(ys[i], xs[i], &mut b)));
 
     let feet: Vec<Vec<f32>> = (0..INPUTS)
         .map(|_| {
@@ -266,22 +272,22 @@ fn main() {
         "one move",
         1.3,
         1.0,
-        |i| unsafe { drop(black_box(ours::probe_move(feet[i][30..].as_ptr(), 7, row.as_mut_ptr(), 18))) },
-        |i| drop(black_box(theirs::one_move(&feet[i][30..], &mut other))),
+        |i| unsafe { kept(ours::probe_move(feet[i][30..].as_ptr(), 7, row.as_mut_ptr(), 18)) },
+        |i| kept(theirs::one_move(&feet[i][30..], &mut other)),
     );
     both(
         "six moves",
         1.3,
         1.0,
-        |i| unsafe { drop(black_box(ours::probe_move_feet(feet[i].as_ptr(), 37, row.as_mut_ptr(), 18))) },
-        |i| drop(black_box(theirs::six_moves(&feet[i], &mut other))),
+        |i| unsafe { kept(ours::probe_move_feet(feet[i].as_ptr(), 37, row.as_mut_ptr(), 18)) },
+        |i| kept(theirs::six_moves(&feet[i], &mut other)),
     );
     both(
         "longest distance",
         1.3,
         1.0,
-        |i| unsafe { drop(black_box(ours::probe_longest_distance(feet[i].as_ptr(), 36, &mut a))) },
-        |i| drop(black_box(theirs::longest(&feet[i], &mut b))),
+        |i| unsafe { kept(ours::probe_longest_distance(feet[i].as_ptr(), 36, &mut a)) },
+        |i| kept(theirs::longest(&feet[i], &mut b)),
     );
     let walks: Vec<Vec<f32>> = (0..INPUTS)
         .map(|_| {
@@ -295,16 +301,16 @@ fn main() {
         "a walk, each step",
         1.3,
         steps as f64 / INPUTS as f64,
-        |i| unsafe { drop(black_box(ours::probe_walk(walks[i][30..].as_ptr(), 7))) },
-        |i| drop(black_box(theirs::one_walk(&walks[i][30..]))),
+        |i| unsafe { kept(ours::probe_walk(walks[i][30..].as_ptr(), 7)) },
+        |i| kept(theirs::one_walk(&walks[i][30..])),
     );
     let steps: u64 = walks.iter().map(|s| theirs::six_walks(s)).sum();
     both(
         "six walks, each step",
         1.3,
         steps as f64 / INPUTS as f64,
-        |i| unsafe { drop(black_box(ours::probe_walk_feet(walks[i].as_ptr(), 37))) },
-        |i| drop(black_box(theirs::six_walks(&walks[i]))),
+        |i| unsafe { kept(ours::probe_walk_feet(walks[i].as_ptr(), 37)) },
+        |i| kept(theirs::six_walks(&walks[i])),
     );
     let states: Vec<Vec<f32>> = (0..INPUTS)
         .map(|_| {
@@ -318,8 +324,8 @@ fn main() {
         "step by distance",
         1.3,
         1.0,
-        |i| unsafe { drop(black_box(ours::probe_step(states[i].as_ptr(), 56, i as u32 & 1, 0, row.as_mut_ptr(), 18))) },
-        |i| drop(black_box(theirs::by_distance(&states[i], i as u32 & 1, 0, &mut other))),
+        |i| unsafe { kept(ours::probe_step(states[i].as_ptr(), 56, i as u32 & 1, 0, row.as_mut_ptr(), 18)) },
+        |i| kept(theirs::by_distance(&states[i], i as u32 & 1, 0, &mut other)),
     );
     let time = |i: usize| Time { seconds: 0, nanoseconds: (i as u32 * 350_000) % 350_000_000 };
     let period = Time { seconds: 0, nanoseconds: 600_000_000 };
@@ -329,9 +335,9 @@ fn main() {
         1.0,
         |i| unsafe {
             let e = time(i);
-            drop(black_box(ours::probe_timed_step(states[i].as_ptr(), 56, i as u32 & 1, 0, e.seconds, e.nanoseconds, 0, period.nanoseconds, row.as_mut_ptr(), 18)))
+            kept(ours::probe_timed_step(states[i].as_ptr(), 56, i as u32 & 1, 0, e.seconds, e.nanoseconds, 0, period.nanoseconds, row.as_mut_ptr(), 18))
         },
-        |i| drop(black_box(theirs::timed(&states[i], i as u32 & 1, 0, time(i), period, &mut other))),
+        |i| kept(theirs::timed(&states[i], i as u32 & 1, 0, time(i), period, &mut other)),
     );
     both(
         "even step",
@@ -339,9 +345,9 @@ fn main() {
         1.0,
         |i| unsafe {
             let e = time(i);
-            drop(black_box(ours::probe_even_step(states[i].as_ptr(), 56, i as u32 & 1, 0, e.seconds, e.nanoseconds, 0, period.nanoseconds, row.as_mut_ptr(), 18)))
+            kept(ours::probe_even_step(states[i].as_ptr(), 56, i as u32 & 1, 0, e.seconds, e.nanoseconds, 0, period.nanoseconds, row.as_mut_ptr(), 18))
         },
-        |i| drop(black_box(theirs::even(&states[i], i as u32 & 1, 0, time(i), period, &mut other))),
+        |i| kept(theirs::even(&states[i], i as u32 & 1, 0, time(i), period, &mut other)),
     );
     // a stance: feet around the body, the relaxed ones near them
     let around = [(0.2, 0.16), (0.2, -0.16), (0.0, 0.2), (0.0, -0.2), (-0.2, 0.16), (-0.2, -0.16)];
@@ -366,8 +372,8 @@ fn main() {
         "planner",
         1.0,
         1.0,
-        |i| unsafe { drop(black_box(ours::probe_plan(plans[i].as_ptr(), 40, i as u32 & 1, 0, 0, 600_000_000, row.as_mut_ptr(), 18))) },
-        |i| drop(black_box(theirs::planned(&plans[i], i as u32 & 1, 0, period, &mut other))),
+        |i| unsafe { kept(ours::probe_plan(plans[i].as_ptr(), 40, i as u32 & 1, 0, 0, 600_000_000, row.as_mut_ptr(), 18)) },
+        |i| kept(theirs::planned(&plans[i], i as u32 & 1, 0, period, &mut other)),
     );
     let mut config = vec![0.052, 0.066, 0.135, 0.6, -0.4];
     for (x, y) in around {
@@ -378,8 +384,8 @@ fn main() {
         "inverse kinematics",
         1.0,
         1.0,
-        |i| unsafe { drop(black_box(ours::probe_ik(poses[i].as_ptr(), 59, row.as_mut_ptr(), 18))) },
-        |i| drop(black_box(theirs::ik(&poses[i], &mut other))),
+        |i| unsafe { kept(ours::probe_ik(poses[i].as_ptr(), 59, row.as_mut_ptr(), 18)) },
+        |i| kept(theirs::ik(&poses[i], &mut other)),
     );
     let joints: Vec<Vec<f32>> = poses
         .iter()
@@ -393,7 +399,7 @@ fn main() {
         "forward kinematics",
         1.0,
         1.0,
-        |i| unsafe { drop(black_box(ours::probe_fk(joints[i].as_ptr(), 59, row.as_mut_ptr(), 18))) },
-        |i| drop(black_box(theirs::fk(&joints[i], &mut other))),
+        |i| unsafe { kept(ours::probe_fk(joints[i].as_ptr(), 59, row.as_mut_ptr(), 18)) },
+        |i| kept(theirs::fk(&joints[i], &mut other)),
     );
 }

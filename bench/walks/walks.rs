@@ -129,7 +129,7 @@ fn main() {
     assert!(Whole::ZERO.less(Whole::units(f32::from_bits(1))));
     for i in 0..count {
         let m = if i % 64 == 0 { 1.0 / 1024.0 } else { (1.0 / 1024.0f32).powf(r.unit()).max(1.0 / 1024.0) };
-        let mut p = |r: &mut Random| match i % 4 {
+        let p = |r: &mut Random| match i % 4 {
             0 => [r.between(-2.0, 2.0), r.between(-2.0, 2.0), r.between(-2.0, 2.0)],
             1 => [r.by_a_power(), r.by_a_power(), r.by_a_power()],
             2 => [r.between(-2.0, 2.0), r.tiny().clamp(-2.0, 2.0), r.tiny().clamp(-2.0, 2.0)],

@@ -1,6 +1,6 @@
 -- Each angle of the table is the whole number nearest to the angle of (128, k): one computed test of 129 angles. Assumes nothing.
-use Prim.Native.Nat.{ℕ, _+_, _-_, _*_, _≤_, _<_}
-use mathlib.Core.Path.{_≡_, refl, subst₂}
+use Prim.Native.Nat.{ℕ, _+_, _-_, _*_, _^_, _≤_, _<_}
+use mathlib.Core.Path.{refl}
 use mathlib.Core.Bool.{Bool}
 use mathlib.Core.List.{List}
 use native.Mathlib.Nat.{mul-pos, mul-le-mul-right}
@@ -10,16 +10,21 @@ use Rattle.series.specs.Fractions.{Fraction, _÷_, whole, _⊗_, _≋_, _≼_}
 use Rattle.series.specs.Series.{S, C}
 use Rattle.series.specs.Working.{pw, ev, sinP, sinM, cosP, cosM, denominator}
 use Rattle.series.proofs.Polynomials.{eval, spread, ev-spread}
-use Rattle.series.proofs.Tables.{both, both-l, both-r}
 use Rattle.series.proofs.Fractions.{same-sym, product-same, le-same}
 use Rattle.series.proofs.Parity.{difference}
 use Rattle.series.proofs.Literal.{S-is, C-is, denominator-pos}
-use Rattle.arc_rows.specs.ArcTangent.{arcTangent, NearestAngle}
+use Rattle.arc_rows.specs.ArcTangent.{arcTangent}
 use Rattle.arc_rows.proofs.Each.{each, each-of}
+
+-- the rule: t is the whole number nearest to the angle. At t - 1/2 the direction (C, S) is not past (128, k), and at t + 1/2 it is not
+-- before it
+pub record NearestAngle (k t : ℕ) : Type 0 where
+  pub low : whole 128 ⊗ S ((2 * t - 1) ÷ 2 ^ 31) ≼ whole k ⊗ C ((2 * t - 1) ÷ 2 ^ 31)
+  pub high : whole k ⊗ C ((2 * t + 1) ÷ 2 ^ 31) ≼ whole 128 ⊗ S ((2 * t + 1) ÷ 2 ^ 31)
 
 -- a half unit is 2 ^ -31
 N : ℕ
-N = 2147483648
+N = 2 ^ 31
 
 -- x S ≤ y C at n, and the other way round, with the powers of N in the coefficients
 abbrev before : List ℕ → List ℕ → List ℕ → List ℕ → ℕ → ℕ → ℕ → Bool
@@ -66,11 +71,12 @@ over-one x y p m q l d h = go (1 * d) h
 
 N-pos : 0 < N
 unfolding N
-N-pos = lit< {m = 0} {n = 2147483648} tt
+N-pos = lit< {m = 0} {n = 2 ^ 31} tt
 
 -- the test at n for f ≋ p - m against g ≋ q - l
 module _ (f g : Fraction → Fraction) (p m q l : List ℕ) (x y n : ℕ)
-    (is : f (n ÷ N) ≋ difference (ev N n p) (ev N n m) (denominator N)) (is' : g (n ÷ N) ≋ difference (ev N n q) (ev N n l) (denominator N)) where
+    (is : f (n ÷ N) ≋ difference (ev N n p) (ev N n m) (denominator N))
+    (is' : g (n ÷ N) ≋ difference (ev N n q) (ev N n l) (denominator N)) where
   told : T (before (spread N p) (spread N m) (spread N q) (spread N l) x y n) → whole x ⊗ f (n ÷ N) ≼ whole y ⊗ g (n ÷ N)
   told t =
       let a = difference (ev N n p) (ev N n m) (denominator N) in
@@ -78,13 +84,17 @@ module _ (f g : Fraction → Fraction) (p m q l : List ℕ) (x y n : ℕ)
       let h : x * eval (spread N p) n + y * eval (spread N l) n ≤ y * eval (spread N q) n + x * eval (spread N m) n = leb→le _ _ t in
       le-same (whole x ⊗ a) (whole x ⊗ f (n ÷ N)) (whole y ⊗ b) (whole y ⊗ g (n ÷ N))
       (mul-pos (lit< {m = 0} {n = 1} tt) (denominator-pos N N-pos)) (mul-pos (lit< {m = 0} {n = 1} tt) (denominator-pos N N-pos))
-      (product-same (whole x) (whole x) a (f (n ÷ N)) refl (same-sym (f (n ÷ N)) a is)) (product-same (whole y) (whole y) b (g (n ÷ N)) refl (same-sym (g (n ÷ N)) b is'))
-      (over-one x y (ev N n p) (ev N n m) (ev N n q) (ev N n l) (denominator N) (rw (ev-spread N p n, ev-spread N l n, ev-spread N q n, ev-spread N m n) at h))
+      (product-same (whole x) (whole x) a (f (n ÷ N)) refl (same-sym (f (n ÷ N)) a is))
+      (product-same (whole y) (whole y) b (g (n ÷ N)) refl (same-sym (g (n ÷ N)) b is'))
+      (over-one x y (ev N n p) (ev N n m) (ev N n q) (ev N n l) (denominator N)
+      (rw (ev-spread N p n, ev-spread N l n, ev-spread N q n, ev-spread N m n) at h))
 
 pub nearest-angle : (k : ℕ) → k < 129 → NearestAngle k (arcTangent k)
 nearest-angle k h = record {
-  low = unfold N in told S C sinP sinM cosP cosM 128 k (2 * t - 1) (S-is (2 * t - 1) N N-pos) (C-is (2 * t - 1) N N-pos) (unfold low sP sM cP cM in each-of low 129 all-low k h);
-  high = unfold N in told C S cosP cosM sinP sinM k 128 (2 * t + 1) (C-is (2 * t + 1) N N-pos) (S-is (2 * t + 1) N N-pos) (unfold high sP sM cP cM in each-of high 129 all-high k h);
+  low = unfold N in told S C sinP sinM cosP cosM 128 k (2 * t - 1) (S-is (2 * t - 1) N N-pos) (C-is (2 * t - 1) N N-pos)
+      (unfold low sP sM cP cM in each-of low 129 all-low k h);
+  high = unfold N in told C S cosP cosM sinP sinM k 128 (2 * t + 1) (C-is (2 * t + 1) N N-pos) (S-is (2 * t + 1) N N-pos)
+      (unfold high sP sM cP cM in each-of high 129 all-high k h);
 }
   where
     t : ℕ

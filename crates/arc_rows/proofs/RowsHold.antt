@@ -1,6 +1,5 @@
 -- The tests of the angles hold at all 129 of them: antt computes them, 43 at a time where they are long. Assumes nothing.
 use Prim.Native.Nat.{ℕ, _<_}
-use mathlib.Core.Bool.{Bool}
 use lib.Dec.{T}
 use Rattle.arc_rows.proofs.Each.{each, each-of, each-of-thirds}
 use Rattle.arc_rows.proofs.RowTests.{good, goodBack, sized}

@@ -10,15 +10,16 @@ use lib.Ieee.Fits.{and-i, and-l, and-r}
 use Rattle.numbers.specs.Door.{finite, permits, unless, either}
 use Rattle.numbers.specs.Limits.{arcCosineArgument}
 use Rattle.numbers.specs.Told.{choose}
-use Rattle.numbers.specs.declared.Answer.the-variants.{Value, Refused}
 use Rattle.units.specs.Units.{mag, unity}
-use Rattle.units.specs.Patterns.{val}
+use Rattle.units.specs.Patterns.{val, signSet, bare}
 use Rattle.units.proofs.Values.{mag-is}
 use Rattle.units.proofs.Patterns.{bits-val}
-use Rattle.arcs.specs.How.{Sorted, angle, smaller, larger, ratio, angleOf, turned, side, insideArcCosine, arcCosine, finiteAtan2, atan2}
+use Rattle.units.proofs.PatternOrder.{val-lt, val-le, val-ltb}
+use Rattle.units.proofs.Bits.{mag-bare}
+use Rattle.arcs.specs.How.{Sorted, angle, smaller, larger, ratio, angleOf, inRadians, side, insideArcCosine, arcCosine, finiteAtan2}
+use Rattle.arcs.specs.How.{atan2}
 use Rattle.arcs.specs.Wedges.{signBit, ArcCosineOf, Atan2Of}
-use Rattle.arcs.proofs.Patterns.{sign, bare, mag-val, sign-val}
-use Rattle.arcs.proofs.Fields.{val-lt, val-le, val-ltb}
+use Rattle.arcs.proofs.SignBits.{sign-bits}
 use Rattle.arcs.proofs.Ratios.{smaller-le, larger-x, larger-y}
 use Rattle.arcs.proofs.ArcBand.{permitted-finite, side-finite}
 use Rattle.arcs.proofs.Atan2Band.{zero-angle}
@@ -43,7 +44,8 @@ bits-mag b h = mag-is (ofBits binary32 b) false (val b) (bits-val b h)
 in-units : (s : Bool) (i j : ℕ) → angle (ltb i j) s (ratio (val (smaller i j)) (val (larger i j))) ≡ angleOf s (val i) (val j)
 in-units s i j = go (ltb i j) (ltb (val i) (val j)) (sym (val-ltb i j))
   where
-    go : (p q : Bool) → p ≡ q → angle p s (ratio (val (cond p i j)) (val (cond p j i))) ≡ angle q s (ratio (cond q (val i) (val j)) (cond q (val j) (val i)))
+    go : (p q : Bool) → p ≡ q
+        → angle p s (ratio (val (cond p i j)) (val (cond p j i))) ≡ angle q s (ratio (cond q (val i) (val j)) (cond q (val j) (val i)))
     go true true e = refl
     go false false e = refl
     go true false e = absurd (true≢false e)
@@ -56,11 +58,13 @@ patterns-lt i j h k = go (ltb i j)
     go true = (h, k)
     go false = (k, h)
 
-pub patterns-sorted : (i j u v : ℕ) → i < 2139095040 → j < 2139095040 → 0 < v → u ≡ smaller i j → v ≡ larger i j → Sorted (ofBits binary32 u) (ofBits binary32 v)
+pub patterns-sorted : (i j u v : ℕ) → i < 2139095040 → j < 2139095040 → 0 < v → u ≡ smaller i j → v ≡ larger i j
+    → Sorted (ofBits binary32 u) (ofBits binary32 v)
 patterns-sorted i j u v h k p eu ev =
     let l = patterns-lt i j h k in
     subst₂ (λ (m n : ℕ). Sorted (ofBits binary32 m) (ofBits binary32 n)) (sym eu) (sym ev)
-    (sorted-of (ofBits binary32 (smaller i j)) (ofBits binary32 (larger i j)) (val (smaller i j)) (val (larger i j)) (bits-val (smaller i j) (l .0)) (bits-val (larger i j) (l .1)) (val-le (smaller i j) (larger i j) (smaller-le i j))
+    (sorted-of (ofBits binary32 (smaller i j)) (ofBits binary32 (larger i j)) (val (smaller i j)) (val (larger i j))
+    (bits-val (smaller i j) (l .0)) (bits-val (larger i j) (l .1)) (val-le (smaller i j) (larger i j) (smaller-le i j))
     (val-lt 0 (larger i j) (subst (λ (n : ℕ). 0 < n) ev p)))
 
 module _ (y x : Float) (fy : T (fits binary32 y)) (fx : T (fits binary32 x)) (h : T (finite y && finite x)) where
@@ -70,46 +74,50 @@ module _ (y x : Float) (fy : T (fits binary32 y)) (fx : T (fits binary32 x)) (h 
   abbrev by : ℕ
   by = toBits binary32 y
 
-  of-bits : finiteAtan2 y x ≡ turned (sign by) (angleOf (sign bx) (val (bare bx)) (val (bare by)))
+  of-bits : finiteAtan2 y x ≡ inRadians (signSet by) (angleOf (signSet bx) (val (bare bx)) (val (bare by)))
   unfolding finiteAtan2
   of-bits =
       let hy = and-l (finite y) (finite x) h in
       let hx = and-r (finite y) (finite x) h in
-      ap₂ (λ (m n : ℕ). turned (signBit y) (angleOf (signBit x) m n)) (mag-val x fx hx) (mag-val y fy hy)
-      ∙ ap₂ (λ (s t : Bool). turned s (angleOf t (val (bare bx)) (val (bare by)))) (sign-val y fy hy) (sign-val x fx hx)
+      ap₂ (λ (m n : ℕ). inRadians (signBit y) (angleOf (signBit x) m n)) (mag-bare x fx hx) (mag-bare y fy hy)
+      ∙ ap₂ (λ (s t : Bool). inRadians s (angleOf t (val (bare bx)) (val (bare by)))) (sign-bits y fy hy) (sign-bits x fx hx)
 
-  pub atan2-is : (u v w a : ℕ) (r : Float) → u ≡ smaller (bare bx) (bare by) → v ≡ larger (bare bx) (bare by) → u < 2139095040 → v < 2139095040 → w ≡ ratio (mag (ofBits binary32 u)) (mag (ofBits binary32 v))
-      → a ≡ angle (ltb (bare bx) (bare by)) (sign bx) w → r ≡ turned (sign by) a → r ≡ finiteAtan2 y x
+  pub atan2-is : (u v w a : ℕ) (r : Float) → u ≡ smaller (bare bx) (bare by) → v ≡ larger (bare bx) (bare by) → u < 2139095040
+      → v < 2139095040 → w ≡ ratio (mag (ofBits binary32 u)) (mag (ofBits binary32 v))
+      → a ≡ angle (ltb (bare bx) (bare by)) (signSet bx) w → r ≡ inRadians (signSet by) a → r ≡ finiteAtan2 y x
   atan2-is u v w a r eu ev lu lv ew ea er =
       er
-      ∙ ap (turned (sign by))
-      (ea ∙ ap (angle (ltb (bare bx) (bare by)) (sign bx)) (ew ∙ ap₂ ratio (bits-mag u lu ∙ ap val eu) (bits-mag v lv ∙ ap val ev)) ∙ in-units (sign bx) (bare bx) (bare by))
+      ∙ ap (inRadians (signSet by))
+      (ea ∙ ap (angle (ltb (bare bx) (bare by)) (signSet bx)) (ew ∙ ap₂ ratio (bits-mag u lu ∙ ap val eu) (bits-mag v lv ∙ ap val ev))
+      ∙ in-units (signSet bx) (bare bx) (bare by))
       ∙ sym of-bits
 
-  pub atan2-zero : (v a : ℕ) (r : Float) → v ≡ larger (bare bx) (bare by) → v ≡ 0 → a ≡ cond (sign bx) 13176795 0 → r ≡ turned (sign by) a → r ≡ finiteAtan2 y x
+  pub atan2-zero : (v a : ℕ) (r : Float) → v ≡ larger (bare bx) (bare by) → v ≡ 0 → a ≡ cond (signSet bx) 13176795 0
+      → r ≡ inRadians (signSet by) a → r ≡ finiteAtan2 y x
   atan2-zero v a r ev z ea er =
       let i : bare bx ≡ 0 = none (bare bx) (larger-x (bare bx) (bare by)) in
       let j : bare by ≡ 0 = none (bare by) (larger-y (bare bx) (bare by)) in
-      er ∙ ap (turned (sign by)) (ea ∙ sym (zero-angle (sign bx)) ∙ sym (ap₂ (λ (m n : ℕ). angleOf (sign bx) (val m) (val n)) i j)) ∙ sym of-bits
+      er ∙ ap (inRadians (signSet by))
+      (ea ∙ sym (zero-angle (signSet bx)) ∙ sym (ap₂ (λ (m n : ℕ). angleOf (signSet bx) (val m) (val n)) i j)) ∙ sym of-bits
     where
       none : (n : ℕ) → n ≤ larger (bare bx) (bare by) → n ≡ 0
       none n h = let e : larger (bare bx) (bare by) ≡ 0 = sym ev ∙ z in omega arith
 
 -- ---- arc cosine
 pub root-finite : (q s : Float) → T (fits binary32 q) → T (permits arcCosineArgument q) → s ≡ side q → T (finite s && finite q)
-root-finite q s f h e = and-i (finite s) (finite q) (subst (λ (z : Float). T (finite z)) (sym e) (side-finite q f h)) (permitted-finite q f h)
+root-finite q s f h e = and-i (finite s) (finite q) (subst (λ (z : Float). T (finite z)) (sym e) (side-finite q f h)) (permitted-finite q h)
 
 pub arc-is : (q s r : Float) → s ≡ side q → r ≡ finiteAtan2 s q → r ≡ insideArcCosine q
 unfolding insideArcCosine
 arc-is q s r e k = k ∙ ap (λ (z : Float). finiteAtan2 z q) e
 
-pub zeros-le : (s : Bool) → cond s 13176795 0 ≤ 13176795
-zeros-le true = omega arith
-zeros-le false = omega arith
+pub either-le : (s : Bool) {a b k : ℕ} → a ≤ k → b ≤ k → cond s a b ≤ k
+either-le true h g = h
+either-le false h g = g
 
 -- ---- the cores
-pub zero-is : ofBits binary32 0 ≡ turned false 0
-unfolding ofBits turned units
+pub zero-is : ofBits binary32 0 ≡ inRadians false 0
+unfolding ofBits inRadians units
 zero-is = refl
 
 otherwise : (b : Bool) (x y : Float) → b ≡ false → choose b x y ≡ y
@@ -117,16 +125,18 @@ otherwise b x y e = ap (λ (t : Bool). choose t x y) e
 
 pub outside-is : (q : Float) → permits arcCosineArgument q ≡ false → ofBits binary32 0 ≡ arcCosine q
 unfolding arcCosine
-outside-is q e = zero-is ∙ sym (otherwise (permits arcCosineArgument q) (insideArcCosine q) (turned false 0) e)
+outside-is q e = zero-is ∙ sym (otherwise (permits arcCosineArgument q) (insideArcCosine q) (inRadians false 0) e)
 
 pub not-finite-is : (y x : Float) → (finite y && finite x) ≡ false → ofBits binary32 0 ≡ atan2 y x
 unfolding atan2
-not-finite-is y x e = zero-is ∙ sym (otherwise (finite y && finite x) (finiteAtan2 y x) (turned false 0) e)
+not-finite-is y x e = zero-is ∙ sym (otherwise (finite y && finite x) (finiteAtan2 y x) (inRadians false 0) e)
 
-pub arc-cosine-both : (q r : Float) → T (fits binary32 q) → r ≡ arcCosine q → (r ≡ arcCosine q) × (T (permits arcCosineArgument q) → ArcCosineOf q r)
+pub arc-cosine-both : (q r : Float) → T (fits binary32 q) → r ≡ arcCosine q
+    → (r ≡ arcCosine q) × (T (permits arcCosineArgument q) → ArcCosineOf q r)
 arc-cosine-both q r f e = (e, λ h. subst (λ (a : Float). ArcCosineOf q a) (sym e) (arc-cosine-band q f h))
 
-pub atan2-both : (y x r : Float) → T (fits binary32 y) → T (fits binary32 x) → r ≡ atan2 y x → (r ≡ atan2 y x) × (T (finite y && finite x) → Atan2Of y x r)
+pub atan2-both : (y x r : Float) → T (fits binary32 y) → T (fits binary32 x) → r ≡ atan2 y x
+    → (r ≡ atan2 y x) × (T (finite y && finite x) → Atan2Of y x r)
 atan2-both y x r fy fx e = (e, λ h. subst (λ (t : Float). Atan2Of y x t) (sym e) (atan2-band y x fy fx h))
 
 -- ---- the entries: what is not refused passed both tests

@@ -1,4 +1,5 @@
--- Arc cosine of whole numbers: the computed angle of (Q, Y) or (-Q, Y), Y near to the root of U ^ 2 - Q ^ 2, meets document 01's rule for Q / U, at any e of F * 2 ^ -22 with F from 4 to 16. Assumes nothing.
+-- Arc cosine of whole numbers: the computed angle of (Q, Y) or (-Q, Y), Y near to the root of U ^ 2 - Q ^ 2, meets document 01's rule for
+-- Q / U, at any e of F * 2 ^ -22 with F from 4 to 16. Assumes nothing.
 use Prim.Native.Nat.{ℕ, suc, _+_, _*_, _-_, _/_, _^_, _≤_, _<_}
 use mathlib.Core.Path.{_≡_, refl, sym, subst}
 use mathlib.Core.Logic.{inl, inr}
@@ -17,7 +18,7 @@ use Rattle.series.proofs.Half.{sin-low}
 use Rattle.arcs.specs.How.{wide, angle, smaller, larger, ratio, angleOf}
 use Rattle.arcs.specs.Wedges.{P}
 use Rattle.arcs.proofs.Octants.{Less, Right, Left, right, left}
-use Rattle.arcs.proofs.Numbers.{lt-same}
+use Rattle.arcs.proofs.StrictOrder.{lt-same}
 use Rattle.arcs.proofs.Places.{G, G-pos, cosineAt, C-at, cosine-pos, less-at, plus-at}
 use Rattle.arcs.proofs.Turn.{Rounded, rounded}
 use Rattle.arcs.proofs.Ratios.{larger-x, larger-y}
@@ -33,11 +34,13 @@ long-flip c c' s s' d h = (omega (arith, h .0), omega (arith, h .1))
 -- the larger of the two is at least half of U
 large : (U X Y : ℕ) → Root U X Y → U ≤ 2 * larger X Y
 large U X Y R = elim (here-or-on (2 * larger X Y) U) [
-  | inl g ↦ absurd (no (larger X Y) (R .Z) (mul-le-mul (larger-x X Y) (larger-x X Y)) (mul-le-mul (larger-y X Y) (larger-y X Y)) (mul-le-mul g g) (R .sum) (R .low))
+  | inl g ↦ absurd (no (larger X Y) (R .Z) (mul-le-mul (larger-x X Y) (larger-x X Y)) (mul-le-mul (larger-y X Y) (larger-y X Y))
+      (mul-le-mul g g) (R .sum) (R .low))
   | inr g ↦ g
 ]
   where
-    no : (v z : ℕ) → X * X ≤ v * v → Y * Y ≤ v * v → suc (2 * v) * suc (2 * v) ≤ U * U → X * X + z ≡ U * U → 2097151 * z ≤ 2097152 * (Y * Y) → ⊥
+    no : (v z : ℕ) → X * X ≤ v * v → Y * Y ≤ v * v → suc (2 * v) * suc (2 * v) ≤ U * U → X * X + z ≡ U * U → 2097151 * z ≤ 2097152 * (Y * Y)
+        → ⊥
     no v z a b c e f = omega arith
 
 -- ---- from the fact on whole numbers to the order of fractions
@@ -134,7 +137,8 @@ module _ (F : ℕ) (F-low : 4 ≤ F) (F-high : F ≤ 16) (U Q Y : ℕ) (U-pos : 
       record { low = left-low t ((t + 128) / 256) (rounded t) r; high = left-high t ((t + 128) / 256) (rounded t) r }
 
 -- ---- document 01's words: a is n * 2 ^ -30
-module _ (e : Fraction) (E : ℕ) (e-is : e ≋ E ÷ G) (e-pos : 0 < e .over) (q q' a : Fraction) (n : ℕ) (q-is : q' ≋ q) (q-pos : 0 < q' .over) (a-is : a ≋ n ÷ G) (a-pos : 0 < a .over) (s : Sides E q' n) where
+module _ (e : Fraction) (E : ℕ) (e-is : e ≋ E ÷ G) (e-pos : 0 < e .over) (q q' a : Fraction) (n : ℕ) (q-is : q' ≋ q) (q-pos : 0 < q' .over)
+    (a-is : a ≋ n ÷ G) (a-pos : 0 < a .over) (s : Sides E q' n) where
   pub low-side : whole 0 ≺ a ⊖ e → q ≼ C (a ⊖ e)
   low-side h =
       let l : a ⊖ e ≋ difference n E G = less-at a e n E a-is e-is in
@@ -149,7 +153,8 @@ module _ (e : Fraction) (E : ℕ) (e-is : e ≋ E ÷ G) (e-pos : 0 < e .over) (q
   pub high-side : a ⊕ e ≺ P → C (a ⊕ e) ≼ q
   high-side h =
       let l : a ⊕ e ≋ difference (n + E) 0 G = plus-at a e n E a-is e-is in
-      let g : n + E < 3373259520 = plain (n + E) (lt-same (a ⊕ e) (difference (n + E) 0 G) P P G-pos (lit< {m = 0} {n = 2 ^ 22} tt) l refl h) in
+      let g : n + E < 3373259520 =
+      plain (n + E) (lt-same (a ⊕ e) (difference (n + E) 0 G) P P G-pos (lit< {m = 0} {n = 2 ^ 22} tt) l refl h) in
       le-same (cosineAt (n + E) 0) (C (a ⊕ e)) q' q D-pos q-pos (same-sym (C (a ⊕ e)) (cosineAt (n + E) 0) (C-at (a ⊕ e) (n + E) 0 l)) q-is
       (subst (λ (c : Fraction). c ≼ q') (sym (cosine-pos (n + E) 0 (n + E) (add-zero (n + E)))) (s .high g))
     where

@@ -11,18 +11,20 @@ use lib.Ieee.Exact.{HasValue}
 use Rattle.numbers.specs.Door.{finite}
 use Rattle.units.specs.Units.{mag}
 use Rattle.units.proofs.Patterns.{one-value}
+use Rattle.units.proofs.Door.{finite-of}
+use Rattle.units.proofs.Errors.{unity-pos}
 use Rattle.series.specs.Fractions.{Fraction, _÷_, whole, negative, signed, _≋_, _≼_, value}
 use Rattle.series.proofs.Fractions.{same-sym, same-trans, negative-same, le-same}
+use Rattle.series.proofs.Values.{value-is, value-over, signed-over, signed-same}
 use Rattle.arc_rows.specs.ArcTangent.{arcTangent}
-use Rattle.arcs.specs.How.{angle, wide, sharp, slope, lean, ratio, angleOf, turned, finiteAtan2}
+use Rattle.arcs.specs.How.{angle, wide, sharp, slope, lean, ratio, angleOf, inRadians, finiteAtan2}
 use Rattle.arcs.specs.Wedges.{P, signBit, IsZero, Angle, Atan2}
-use Rattle.arcs.proofs.Numbers.{value-is, value-over, signed-same}
 use Rattle.arcs.proofs.Places.{G, G-pos}
 use Rattle.arcs.proofs.Turn.{Fine, upper, angle-le}
 use Rattle.arcs.proofs.Atan2Rule.{angle-of, mirror}
 use Rattle.arcs.proofs.Ratios.{larger-pos}
-use Rattle.arcs.proofs.Patterns.{sign-is, finite-of, in-units}
-use Rattle.arcs.proofs.Results.{turned-value, turned-fits}
+use Rattle.arcs.proofs.SignBits.{sign-is, in-units}
+use Rattle.arcs.proofs.Results.{radians-value, radians-fits}
 
 -- ---- a result as a fraction
 pub few : {n : ℕ} → n ≤ 13176795 → n < 16777216
@@ -34,28 +36,26 @@ in-grid A = go A (2 ^ 127)
     go : (A h : ℕ) → A * h * 1073741824 + 0 * (4194304 * h) ≡ 256 * A * (4194304 * h) + 0 * 1073741824
     go A h = omega arith
 
-pub turned-is : (s : Bool) (A : ℕ) → A ≤ 13176795 → value (turned s A) ≋ signed s ((256 * A) ÷ G)
-turned-is s A h =
-    same-trans (value (turned s A)) (signed s ((A * 2 ^ 127) ÷ 2 ^ 149)) (signed s ((256 * A) ÷ G)) (over s)
-    (value-is (turned s A) s (A * 2 ^ 127) (2 ^ 149) (turned-value s A (few h))) (signed-same s ((A * 2 ^ 127) ÷ 2 ^ 149) ((256 * A) ÷ G) (in-grid A))
-  where
-    over : (s : Bool) → 0 < signed s ((A * 2 ^ 127) ÷ 2 ^ 149) .over
-    over true = lit< {m = 0} {n = 2 ^ 149} tt
-    over false = lit< {m = 0} {n = 2 ^ 149} tt
+pub radians-is : (s : Bool) (A : ℕ) → A ≤ 13176795 → value (inRadians s A) ≋ signed s ((256 * A) ÷ G)
+radians-is s A h =
+    same-trans (value (inRadians s A)) (signed s ((A * 2 ^ 127) ÷ 2 ^ 149)) (signed s ((256 * A) ÷ G))
+    (signed-over s ((A * 2 ^ 127) ÷ 2 ^ 149) unity-pos)
+    (value-is (inRadians s A) s (A * 2 ^ 127) (2 ^ 149) (radians-value s A (few h)))
+    (signed-same s ((A * 2 ^ 127) ÷ 2 ^ 149) ((256 * A) ÷ G) (in-grid A))
 
 -- at most P on either side
-pub turned-le : (s : Bool) (A : ℕ) → A ≤ 13176795 → (negative P ≼ value (turned s A)) × (value (turned s A) ≼ P)
-turned-le s A h = (
-  le-same (negative P) (negative P) (signed s ((256 * A) ÷ G)) (value (turned s A)) (lit< {m = 0} {n = 2 ^ 22} tt) (over s) refl (back s) (low s),
-  le-same (signed s ((256 * A) ÷ G)) (value (turned s A)) P P (over s) (lit< {m = 0} {n = 2 ^ 22} tt) (back s) refl (high s),
+pub radians-le : (s : Bool) (A : ℕ) → A ≤ 13176795 → (negative P ≼ value (inRadians s A)) × (value (inRadians s A) ≼ P)
+radians-le s A h = (
+  le-same (negative P) (negative P) (signed s ((256 * A) ÷ G)) (value (inRadians s A)) (lit< {m = 0} {n = 2 ^ 22} tt) over refl (back s)
+      (low s),
+  le-same (signed s ((256 * A) ÷ G)) (value (inRadians s A)) P P over (lit< {m = 0} {n = 2 ^ 22} tt) (back s) refl (high s),
 )
   where
-    over : (s : Bool) → 0 < signed s ((256 * A) ÷ G) .over
-    over true = G-pos
-    over false = G-pos
+    over : 0 < signed s ((256 * A) ÷ G) .over
+    over = signed-over s ((256 * A) ÷ G) G-pos
 
-    back : (s : Bool) → signed s ((256 * A) ÷ G) ≋ value (turned s A)
-    back s = same-sym (value (turned s A)) (signed s ((256 * A) ÷ G)) (turned-is s A h)
+    back : (s : Bool) → signed s ((256 * A) ÷ G) ≋ value (inRadians s A)
+    back s = same-sym (value (inRadians s A)) (signed s ((256 * A) ÷ G)) (radians-is s A h)
 
     low : (s : Bool) → negative P ≼ signed s ((256 * A) ÷ G)
     low true = omega arith
@@ -68,13 +68,10 @@ turned-le s A h = (
 -- ---- zero
 no-units : (x : Float) → T (fits binary32 x) → T (finite x) → mag x ≡ 0 → IsZero x
 no-units x f h e =
-    same-trans (value x) (signed (signBit x) (mag x ÷ 2 ^ 149)) (whole 0) (over (signBit x)) (value-is x (signBit x) (mag x) (2 ^ 149) (in-units x f h))
+    same-trans (value x) (signed (signBit x) (mag x ÷ 2 ^ 149)) (whole 0) (signed-over (signBit x) (mag x ÷ 2 ^ 149) unity-pos)
+    (value-is x (signBit x) (mag x) (2 ^ 149) (in-units x f h))
     (subst (λ (n : ℕ). signed (signBit x) (n ÷ 2 ^ 149) ≋ whole 0) (sym e) (go (signBit x)))
   where
-    over : (s : Bool) → 0 < signed s (mag x ÷ 2 ^ 149) .over
-    over true = lit< {m = 0} {n = 2 ^ 149} tt
-    over false = lit< {m = 0} {n = 2 ^ 149} tt
-
     go : (s : Bool) → signed s (0 ÷ 2 ^ 149) ≋ whole 0
     go true = refl
     go false = refl
@@ -82,7 +79,8 @@ no-units x f h e =
 zero-units : (x : Float) → T (fits binary32 x) → T (finite x) → IsZero x → mag x ≡ 0
 zero-units x f h e =
     go (signBit x) (mag x) (2 ^ 149)
-    (same-trans (signed (signBit x) (mag x ÷ 2 ^ 149)) (value x) (whole 0) (value-over x) (same-sym (value x) (signed (signBit x) (mag x ÷ 2 ^ 149)) (value-is x (signBit x) (mag x) (2 ^ 149) (in-units x f h))) e)
+    (same-trans (signed (signBit x) (mag x ÷ 2 ^ 149)) (value x) (whole 0) (value-over x)
+    (same-sym (value x) (signed (signBit x) (mag x ÷ 2 ^ 149)) (value-is x (signBit x) (mag x) (2 ^ 149) (in-units x f h))) e)
   where
     go : (s : Bool) (n u : ℕ) → signed s (n ÷ u) ≋ whole 0 → n ≡ 0
     go true n u h = plain h
@@ -113,7 +111,8 @@ any-le s x y = elim (eq-zero-or-pos x) [
     go false = omega arith
 
 -- ---- the rule
-module _ (e : Fraction) (F : ℕ) (F-low : 4 ≤ F) (F-high : F ≤ 16) (e-is : e ≋ (256 * F) ÷ G) (e-pos : 0 < e .over) (y x : Float) (fy : T (fits binary32 y)) (fx : T (fits binary32 x)) (hy : T (finite y)) (hx : T (finite x)) where
+module _ (e : Fraction) (F : ℕ) (F-low : 4 ≤ F) (F-high : F ≤ 16) (e-is : e ≋ (256 * F) ÷ G) (e-pos : 0 < e .over) (y x : Float)
+    (fy : T (fits binary32 y)) (fx : T (fits binary32 x)) (hy : T (finite y)) (hx : T (finite x)) where
   abbrev A : ℕ
   A = angleOf (signBit x) (mag x) (mag y)
 
@@ -122,7 +121,7 @@ module _ (e : Fraction) (F : ℕ) (F-low : 4 ≤ F) (F-high : F ≤ 16) (e-is : 
 
   U-pos : 0 < U
   unfolding U
-  U-pos = lit< {m = 0} {n = 2 ^ 149} tt
+  U-pos = unity-pos
 
   abbrev x₀ : Fraction
   x₀ = signed (signBit x) (mag x ÷ U)
@@ -131,11 +130,7 @@ module _ (e : Fraction) (F : ℕ) (F-low : 4 ≤ F) (F-high : F ≤ 16) (e-is : 
   y₀ = mag y ÷ U
 
   x-over : 0 < x₀ .over
-  x-over = go (signBit x)
-    where
-      go : (s : Bool) → 0 < signed s (mag x ÷ U) .over
-      go true = U-pos
-      go false = U-pos
+  x-over = signed-over (signBit x) (mag x ÷ U) U-pos
 
   x-is : x₀ ≋ value x
   unfolding U
@@ -149,11 +144,15 @@ module _ (e : Fraction) (F : ℕ) (F-low : 4 ≤ F) (F-high : F ≤ 16) (e-is : 
   fine p = upper (256 * F) (omega arith) (omega arith) U U-pos (mag x) (mag y) (larger-pos (mag x) (mag y) p) (signBit x)
 
   -- y and t with the same sign
-  signed-angle : (s : Bool) (v t : Fraction) → 0 < v .over → 0 < t .over → v ≋ signed s y₀ → t ≋ signed s ((256 * A) ÷ G) → Fine (256 * F) y₀ x₀ (256 * A) → Angle e v (value x) t
-  signed-angle false v t pv pt hv ht f = angle-of e (256 * F) e-is e-pos v (value x) t y₀ x₀ (256 * A) (same-sym v y₀ hv) x-is ht pv (value-over x) pt U-pos x-over f
+  signed-angle : (s : Bool) (v t : Fraction) → 0 < v .over → 0 < t .over → v ≋ signed s y₀ → t ≋ signed s ((256 * A) ÷ G)
+      → Fine (256 * F) y₀ x₀ (256 * A) → Angle e v (value x) t
+  signed-angle false v t pv pt hv ht f =
+      angle-of e (256 * F) e-is e-pos v (value x) t y₀ x₀ (256 * A) (same-sym v y₀ hv) x-is ht pv (value-over x) pt U-pos x-over f
   signed-angle true v t pv pt hv ht f =
       mirror e (negative v) (value x) (negative t)
-      (angle-of e (256 * F) e-is e-pos (negative v) (value x) (negative t) y₀ x₀ (256 * A) (same-sym (negative v) y₀ (negative-same v (negative y₀) hv)) x-is (negative-same t (negative ((256 * A) ÷ G)) ht) pv (value-over x) pt U-pos x-over f)
+      (angle-of e (256 * F) e-is e-pos (negative v) (value x) (negative t) y₀ x₀ (256 * A)
+      (same-sym (negative v) y₀ (negative-same v (negative y₀) hv)) x-is (negative-same t (negative ((256 * A) ÷ G)) ht) pv
+      (value-over x) pt U-pos x-over f)
 
   some : (IsZero y → IsZero x → ⊥) → (0 < mag x) ⊎ (0 < mag y)
   some never = elim (eq-zero-or-pos (mag x)) [
@@ -162,10 +161,10 @@ module _ (e : Fraction) (F : ℕ) (F-low : 4 ≤ F) (F-high : F ≤ 16) (e-is : 
   ]
 
   abbrev t : Float
-  t = turned (signBit y) A
+  t = inRadians (signBit y) A
 
   t-value : HasValue t (signBit y) (A * 2 ^ 127) (2 ^ 149)
-  t-value = turned-value (signBit y) A (few (any-le (signBit x) (mag x) (mag y)))
+  t-value = radians-value (signBit y) A (few (any-le (signBit x) (mag x) (mag y)))
 
   at-zeros : IsZero y → IsZero x → A ≡ cond (signBit x) 13176795 0
   at-zeros p q = ap₂ (λ (a b : ℕ). angleOf (signBit x) a b) (zero-units x fx hx q) (zero-units y fy hy p) ∙ zero-angle (signBit x)
@@ -173,27 +172,28 @@ module _ (e : Fraction) (F : ℕ) (F-low : 4 ≤ F) (F-high : F ≤ 16) (e-is : 
   itself : IsZero y → IsZero x → signBit x ≡ false → t ≡ y
   itself p q s =
       let none : A ≡ 0 = at-zeros p q ∙ ap (λ (b : Bool). cond {A = ℕ} b 13176795 0) s in
-      one-value t y (signBit y) 0 (turned-fits (signBit y) A (few (any-le (signBit x) (mag x) (mag y)))) fy
-      (subst (λ (n : ℕ). HasValue t (signBit y) (n * 2 ^ 127) (2 ^ 149)) none t-value) (subst (λ (n : ℕ). HasValue y (signBit y) n (2 ^ 149)) (zero-units y fy hy p) (in-units y fy hy))
+      one-value t y (signBit y) 0 (radians-fits (signBit y) A (few (any-le (signBit x) (mag x) (mag y)))) fy
+      (subst (λ (n : ℕ). HasValue t (signBit y) (n * 2 ^ 127) (2 ^ 149)) none t-value)
+      (subst (λ (n : ℕ). HasValue y (signBit y) n (2 ^ 149)) (zero-units y fy hy p) (in-units y fy hy))
 
   half-turn : IsZero y → IsZero x → signBit x ≡ true → value t ≋ signed (signBit y) P
   half-turn p q s =
       let all : A ≡ 13176795 = at-zeros p q ∙ ap (λ (b : Bool). cond {A = ℕ} b 13176795 0) s in
-      same-trans (value t) (signed (signBit y) ((256 * A) ÷ G)) (signed (signBit y) P) (over (signBit y)) (turned-is (signBit y) A (any-le (signBit x) (mag x) (mag y)))
-      (subst (λ (n : ℕ). signed (signBit y) ((256 * n) ÷ G) ≋ signed (signBit y) P) (sym all) (signed-same (signBit y) ((256 * 13176795) ÷ G) P refl))
-    where
-      over : (s : Bool) → 0 < signed s ((256 * A) ÷ G) .over
-      over true = G-pos
-      over false = G-pos
+      same-trans (value t) (signed (signBit y) ((256 * A) ÷ G)) (signed (signBit y) P) (signed-over (signBit y) ((256 * A) ÷ G) G-pos)
+      (radians-is (signBit y) A (any-le (signBit x) (mag x) (mag y)))
+      (subst (λ (n : ℕ). signed (signBit y) ((256 * n) ÷ G) ≋ signed (signBit y) P) (sym all)
+      (signed-same (signBit y) ((256 * 13176795) ÷ G) P refl))
 
   pub atan2-rule : Atan2 e y x (finiteAtan2 y x)
   unfolding finiteAtan2
   atan2-rule = record {
     is-number = finite-of t (signBit y) (A * 2 ^ 127) (2 ^ 149) t-value;
-    least = turned-le (signBit y) A (any-le (signBit x) (mag x) (mag y)) .0;
-    most = turned-le (signBit y) A (any-le (signBit x) (mag x) (mag y)) .1;
+    least = radians-le (signBit y) A (any-le (signBit x) (mag x) (mag y)) .0;
+    most = radians-le (signBit y) A (any-le (signBit x) (mag x) (mag y)) .1;
     sign = sign-is t (signBit y) (A * 2 ^ 127) (2 ^ 149) t-value;
-    angle = λ never. signed-angle (signBit y) (value y) (value t) (value-over y) (value-over t) y-is (turned-is (signBit y) A (any-le (signBit x) (mag x) (mag y))) (fine (some never));
+    angle =
+        λ never. signed-angle (signBit y) (value y) (value t) (value-over y) (value-over t) y-is
+        (radians-is (signBit y) A (any-le (signBit x) (mag x) (mag y))) (fine (some never));
     zero-right = itself;
     zero-left = half-turn;
   }

@@ -10,24 +10,34 @@ use Rattle.arcs.proofs.Transfer.{Root, transfer-up, transfer-down}
 -- the pairs of a direction are one long, but for 2 ^ -50
 abbrev pub Long : ℕ → ℕ → ℕ → ℕ → ℕ → Type 0
 Long c c' s s' d =
-    (1125899906842624 * (c * c + c' * c' + (s * s + s' * s')) ≤ 1125899906842624 * (2 * (c * c') + 2 * (s * s')) + 1125899906842625 * (d * d))
-    × (1125899906842624 * (2 * (c * c') + 2 * (s * s')) + 1125899906842623 * (d * d) ≤ 1125899906842624 * (c * c + c' * c' + (s * s + s' * s')))
+    (1125899906842624 * (c * c + c' * c' + (s * s + s' * s'))
+    ≤ 1125899906842624 * (2 * (c * c') + 2 * (s * s')) + 1125899906842625 * (d * d))
+    × (1125899906842624 * (2 * (c * c') + 2 * (s * s')) + 1125899906842623 * (d * d)
+    ≤ 1125899906842624 * (c * c + c' * c' + (s * s + s' * s')))
 
 -- with c = c' + i and s = s' + j
-squares-up : (c' i s' j d : ℕ) → 1125899906842624 * ((c' + i) * (c' + i) + c' * c' + ((s' + j) * (s' + j) + s' * s')) ≤ 1125899906842624 * (2 * ((c' + i) * c') + 2 * ((s' + j) * s')) + 1125899906842625 * (d * d)
+squares-up : (c' i s' j d : ℕ)
+    → 1125899906842624 * ((c' + i) * (c' + i) + c' * c' + ((s' + j) * (s' + j) + s' * s'))
+    ≤ 1125899906842624 * (2 * ((c' + i) * c') + 2 * ((s' + j) * s')) + 1125899906842625 * (d * d)
     → 1125899906842624 * (i * i + j * j) ≤ 1125899906842625 * (d * d)
 squares-up c' i s' j d h = omega arith
 
-squares-down : (c' i s' j d : ℕ) → 1125899906842624 * (2 * ((c' + i) * c') + 2 * ((s' + j) * s')) + 1125899906842623 * (d * d) ≤ 1125899906842624 * ((c' + i) * (c' + i) + c' * c' + ((s' + j) * (s' + j) + s' * s'))
+squares-down : (c' i s' j d : ℕ)
+    → 1125899906842624 * (2 * ((c' + i) * c') + 2 * ((s' + j) * s')) + 1125899906842623 * (d * d)
+    ≤ 1125899906842624 * ((c' + i) * (c' + i) + c' * c' + ((s' + j) * (s' + j) + s' * s'))
     → 1125899906842623 * (d * d) ≤ 1125899906842624 * (i * i + j * j)
 squares-down c' i s' j d h = omega arith
 
 -- likewise with s' = s + j
-squares-turn : (c c' s s' d : ℕ) → 1125899906842624 * (2 * (c * c') + 2 * (s * s')) + 1125899906842623 * (d * d) ≤ 1125899906842624 * (c * c + c' * c' + (s * s + s' * s'))
-    → 1125899906842624 * (2 * (c * c') + 2 * (s' * s)) + 1125899906842623 * (d * d) ≤ 1125899906842624 * (c * c + c' * c' + (s' * s' + s * s))
+squares-turn : (c c' s s' d : ℕ)
+    → 1125899906842624 * (2 * (c * c') + 2 * (s * s')) + 1125899906842623 * (d * d)
+    ≤ 1125899906842624 * (c * c + c' * c' + (s * s + s' * s'))
+    → 1125899906842624 * (2 * (c * c') + 2 * (s' * s)) + 1125899906842623 * (d * d)
+    ≤ 1125899906842624 * (c * c + c' * c' + (s' * s' + s * s))
 squares-turn c c' s s' d h = omega arith
 
-module _ (U X Y v c c' s s' d : ℕ) (R : Root U X Y) (X-le : X ≤ U) (X-under : X ≤ v) (Y-under : Y ≤ v) (v-pos : 0 < v) (U-pos : 0 < U) (L : Long c c' s s' d) (d-pos : 0 < d) where
+module _ (U X Y v c c' s s' d : ℕ) (R : Root U X Y) (X-le : X ≤ U) (X-under : X ≤ v) (Y-under : Y ≤ v) (v-pos : 0 < v) (U-pos : 0 < U)
+    (L : Long c c' s s' d) (d-pos : 0 < d) where
   -- Y C ≤ X S: then C ≤ X / U
   module _ (h : 33554432 * (Y * c + X * s') + 9 * (v * d) ≤ 33554432 * (Y * c' + X * s)) where
     -- S is above 0 where C is not negative
@@ -41,9 +51,13 @@ module _ (U X Y v c c' s s' d : ℕ) (R : Root U X Y) (X-le : X ≤ U) (X-under 
         no a b e = omega arith
 
     over-it : U ≤ 2 * v → (i j : ℕ) → c' + i ≡ c → s' + j ≡ s → X * d ≤ U * i → ⊥
-    over-it w i j ec es g = transfer-up U X Y v i j d R X-le Y-under v-pos U-pos d-pos (margin (ap (λ (z : ℕ). Y * z) ec) (ap (λ (z : ℕ). X * z) es)) g
-        (squares-up c' i s' j d (subst (λ (z : ℕ). 1125899906842624 * (z * z + c' * c' + ((s' + j) * (s' + j) + s' * s')) ≤ 1125899906842624 * (2 * (z * c') + 2 * ((s' + j) * s')) + 1125899906842625 * (d * d)) (sym ec)
-        (subst (λ (z : ℕ). 1125899906842624 * (c * c + c' * c' + (z * z + s' * s')) ≤ 1125899906842624 * (2 * (c * c') + 2 * (z * s')) + 1125899906842625 * (d * d)) (sym es) (L .0)))) w
+    over-it w i j ec es g =
+        transfer-up U X Y v i j d R X-le Y-under v-pos U-pos d-pos (margin (ap (λ (z : ℕ). Y * z) ec) (ap (λ (z : ℕ). X * z) es)) g
+        (squares-up c' i s' j d (subst
+        (λ (z : ℕ). 1125899906842624 * (z * z + c' * c' + ((s' + j) * (s' + j) + s' * s'))
+        ≤ 1125899906842624 * (2 * (z * c') + 2 * ((s' + j) * s')) + 1125899906842625 * (d * d)) (sym ec)
+        (subst (λ (z : ℕ). 1125899906842624 * (c * c + c' * c' + (z * z + s' * s'))
+        ≤ 1125899906842624 * (2 * (c * c') + 2 * (z * s')) + 1125899906842625 * (d * d)) (sym es) (L .0)))) w
       where
         margin : Y * (c' + i) ≡ Y * c → X * (s' + j) ≡ X * s → 33554432 * (Y * i) + 9 * (v * d) ≤ 33554432 * (X * j)
         margin a b = omega arith
@@ -83,10 +97,18 @@ module _ (U X Y v c c' s s' d : ℕ) (R : Root U X Y) (X-le : X ≤ U) (X-under 
     under-it i j ec es g = transfer-down U X Y v i j d R X-le Y-under v-pos U-pos d-pos (margin es (ap (λ (z : ℕ). Y * z) ec)) g (norm es)
       where
         norm : (s' + j ≡ s) ⊎ (s + j ≡ s') → 1125899906842623 * (d * d) ≤ 1125899906842624 * (i * i + j * j)
-        norm (inl e) = squares-down c' i s' j d (subst (λ (z : ℕ). 1125899906842624 * (2 * (z * c') + 2 * ((s' + j) * s')) + 1125899906842623 * (d * d) ≤ 1125899906842624 * (z * z + c' * c' + ((s' + j) * (s' + j) + s' * s'))) (sym ec)
-            (subst (λ (z : ℕ). 1125899906842624 * (2 * (c * c') + 2 * (z * s')) + 1125899906842623 * (d * d) ≤ 1125899906842624 * (c * c + c' * c' + (z * z + s' * s'))) (sym e) (L .1)))
-        norm (inr e) = squares-down c' i s j d (subst (λ (z : ℕ). 1125899906842624 * (2 * (z * c') + 2 * ((s + j) * s)) + 1125899906842623 * (d * d) ≤ 1125899906842624 * (z * z + c' * c' + ((s + j) * (s + j) + s * s))) (sym ec)
-            (subst (λ (z : ℕ). 1125899906842624 * (2 * (c * c') + 2 * (z * s)) + 1125899906842623 * (d * d) ≤ 1125899906842624 * (c * c + c' * c' + (z * z + s * s))) (sym e) (squares-turn c c' s s' d (L .1))))
+        norm (inl e) =
+            squares-down c' i s' j d
+            (subst (λ (z : ℕ). 1125899906842624 * (2 * (z * c') + 2 * ((s' + j) * s')) + 1125899906842623 * (d * d)
+            ≤ 1125899906842624 * (z * z + c' * c' + ((s' + j) * (s' + j) + s' * s'))) (sym ec)
+            (subst (λ (z : ℕ). 1125899906842624 * (2 * (c * c') + 2 * (z * s')) + 1125899906842623 * (d * d)
+            ≤ 1125899906842624 * (c * c + c' * c' + (z * z + s' * s'))) (sym e) (L .1)))
+        norm (inr e) =
+            squares-down c' i s j d (subst
+            (λ (z : ℕ). 1125899906842624 * (2 * (z * c') + 2 * ((s + j) * s)) + 1125899906842623 * (d * d)
+            ≤ 1125899906842624 * (z * z + c' * c' + ((s + j) * (s + j) + s * s))) (sym ec)
+            (subst (λ (z : ℕ). 1125899906842624 * (2 * (c * c') + 2 * (z * s)) + 1125899906842623 * (d * d)
+            ≤ 1125899906842624 * (c * c + c' * c' + (z * z + s * s))) (sym e) (squares-turn c c' s s' d (L .1))))
 
         margin : (s' + j ≡ s) ⊎ (s + j ≡ s') → Y * (c' + i) ≡ Y * c → 134217728 * (X * j) + 35 * (v * d) ≤ 134217728 * (Y * i)
         margin (inl e) a = omega (arith, ap (λ (z : ℕ). X * z) e)

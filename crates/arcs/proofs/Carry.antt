@@ -16,7 +16,8 @@ near-refl p m = record { above = go D; under = go D }
 abbrev pub Apart : ℕ → ℕ → ℕ → Type 0
 Apart v p q = 33554432 * p + 9 * (v * D) ≤ 33554432 * q
 
-pub carry : {a a' b b' A A' B B' : ℕ} (u v : ℕ) → u ≤ v → Near a a' A A' → Near b b' B B' → Past u v a a' b b' → Apart v (u * A + v * B') (u * A' + v * B)
+pub carry : {a a' b b' A A' B B' : ℕ} (u v : ℕ) → u ≤ v → Near a a' A A' → Near b b' B B' → Past u v a a' b b'
+    → Apart v (u * A + v * B') (u * A' + v * B)
 carry {a} {a'} {b} {b'} {A} {A'} {B} {B'} u v h na nb o = go D o (na .above) (nb .under)
   where
     go : (d : ℕ) → 33554432 * (u * a + v * b') + 10 * (v * d) ≤ 33554432 * (u * a' + v * b)
@@ -25,7 +26,8 @@ carry {a} {a'} {b} {b'} {A} {A'} {B} {B'} u v h na nb o = go D o (na .above) (nb
     go d o p q = omega (arith, mul-le-mul-left u p, mul-le-mul-left v q, mul-le-mul-right d h)
 
 -- v (a - a') + u (b - b'), where the first is at least a half and the second at least -1/4
-pub dot-carry : {a a' b b' A A' B B' : ℕ} (u v : ℕ) → u ≤ v → Near a a' A A' → Near b b' B B' → D + 2 * a' ≤ 2 * a → 4 * b' ≤ D + 4 * b → Apart v (v * A' + u * B') (v * A + u * B)
+pub dot-carry : {a a' b b' A A' B B' : ℕ} (u v : ℕ) → u ≤ v → Near a a' A A' → Near b b' B B' → D + 2 * a' ≤ 2 * a → 4 * b' ≤ D + 4 * b
+    → Apart v (v * A' + u * B') (v * A + u * B)
 dot-carry {a} {a'} {b} {b'} {A} {A'} {B} {B'} u v h na nb c s = go D c s (na .under) (nb .under)
   where
     go : (d : ℕ) → d + 2 * a' ≤ 2 * a → 4 * b' ≤ d + 4 * b

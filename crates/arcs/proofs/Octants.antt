@@ -1,4 +1,5 @@
--- The four octants: the angle of (X, Y) and of (-X, Y) by the ratio of the smaller to the larger, less or plus d from 896 to 4224 units of 2 ^ -30, lies on the right side of it. Assumes nothing.
+-- The four octants: the angle of (X, Y) and of (-X, Y) by the ratio of the smaller to the larger, less or plus d from 896 to 4224 units
+-- of 2 ^ -30, lies on the right side of it. Assumes nothing.
 use Prim.Native.Nat.{ℕ, _+_, _*_, _-_, _≤_, _<_}
 use mathlib.Core.Path.{_≡_, refl}
 use mathlib.Core.Logic.{inl, inr}
@@ -7,7 +8,8 @@ use native.Mathlib.Omega.{arith}
 use lib.Dec.{T, ltb, ltb→lt, nltb→le}
 use Rattle.arcs.specs.How.{quarter, half, slope, sharp, wide, smaller, larger, ratio}
 use Rattle.series.proofs.Grid.{sp, sm, cp, cm, D}
-use Rattle.series.proofs.Reflect.{near-flip, quarter-back-sin, quarter-back-cos, quarter-on-sin, quarter-on-cos, half-back-sin, half-back-cos, half-on-sin, half-on-cos}
+use Rattle.series.proofs.Reflect.{near-flip, quarter-back-sin, quarter-back-cos, quarter-on-sin, quarter-on-cos, half-back-sin}
+use Rattle.series.proofs.Reflect.{half-back-cos, half-on-sin, half-on-cos}
 use Rattle.series.proofs.Octant.{cos-half, sin-pos, sin-small}
 use Rattle.series.proofs.Order.{here-or-on}
 use Rattle.arcs.proofs.FirstOctant.{First, first}
@@ -51,9 +53,12 @@ module _ (u v t : ℕ) (h : u ≤ v) (F : First u v t) where
     past = λ d n p q e. carry u v h (near-refl (cp n) (cm n)) (near-refl (sp n) (sm n)) (F .past d n p q e);
     before = λ d n p q e. carry u v h (near-refl (cm n) (cp n)) (near-refl (sm n) (sp n)) (F .before d n p q e);
     beyond = λ d n p q e. carry u v h (near-refl (cm n) (cp n)) (near-refl (sp n) (sm n)) (F .beyond d n p q e);
-    on = λ d n p e. dot-carry u v h (near-refl (cp n) (cm n)) (near-refl (sp n) (sm n)) (cos-half n (far d n p e)) (low-sin n (far d n p e));
+    on =
+        λ d n p e. dot-carry u v h (near-refl (cp n) (cm n)) (near-refl (sp n) (sm n)) (cos-half n (far d n p e)) (low-sin n (far d n p e));
     off = λ d n p e. dot-carry u v h (near-refl (cp n) (cm n)) (near-refl (sp n) (sm n)) (cos-half n (near d n e)) (low-sin n (near d n e));
-    under = λ d n p e. dot-carry u v h (near-refl (cp n) (cm n)) (near-refl (sm n) (sp n)) (cos-half n (omega arith)) (sin-small n (omega arith));
+    under =
+        λ d n p e. dot-carry u v h (near-refl (cp n) (cm n)) (near-refl (sm n) (sp n)) (cos-half n (omega arith))
+        (sin-small n (omega arith));
     most = omega (arith, F .reach);
   }
     where
@@ -71,12 +76,20 @@ module _ (u v t : ℕ) (h : u ≤ v) (F : First u v t) where
             let w = d - t in
             let r : n ≡ quarter + w = omega (arith, F .reach) in
             let b : w ≤ 851707689 = omega arith in
-            omega (arith, carry u v h (near-flip (quarter-on-sin n w r b)) (near-flip (quarter-on-cos n w r b)) (F .beyond d w p q (omega arith)))
+            omega (
+              arith,
+              carry u v h (near-flip (quarter-on-sin n w r b)) (near-flip (quarter-on-cos n w r b))
+                  (F .beyond d w p q (omega arith)),
+            )
         | inr g ↦
             let w = t - d in
             let r : n + w ≡ quarter = omega (arith, F .reach) in
             let b : w ≤ 851707689 = omega (arith, F .reach) in
-            omega (arith, carry u v h (near-flip (quarter-back-sin n w r b)) (near-flip (quarter-back-cos n w r b)) (F .before d w p q (omega arith)))
+            omega (
+              arith,
+              carry u v h (near-flip (quarter-back-sin n w r b)) (near-flip (quarter-back-cos n w r b))
+                  (F .before d w p q (omega arith)),
+            )
       ]
 
   two-before : (d n : ℕ) → 896 ≤ d → d ≤ 4224 → n + d ≡ quarter - t → Less v v u (cm n) (cp n) (sm n) (sp n)
@@ -159,7 +172,11 @@ module _ (u v t : ℕ) (h : u ≤ v) (F : First u v t) where
             let w = d - t in
             let r : n + w ≡ quarter = omega (arith, F .reach) in
             let b : w ≤ 851707689 = omega arith in
-            omega (arith, dot-carry u v h (quarter-back-sin n w r b) (near-flip (quarter-back-cos n w r b)) (cos-half w b) (sin-small w (omega arith)))
+            omega (
+              arith,
+              dot-carry u v h (quarter-back-sin n w r b) (near-flip (quarter-back-cos n w r b)) (cos-half w b)
+                  (sin-small w (omega arith)),
+            )
         | inr g ↦
             let w = t - d in
             let r : n ≡ quarter + w = omega (arith, F .reach) in
@@ -207,7 +224,11 @@ module _ (u v t : ℕ) (h : u ≤ v) (F : First u v t) where
             let w = d - t in
             let r : n ≡ half + w = omega (arith, F .reach) in
             let b : w ≤ 851707689 = omega arith in
-            omega (arith, dot-carry u v h (near-flip (half-on-cos n w r b)) (half-on-sin n w r b) (cos-half w b) (sin-small w (omega arith)))
+            omega (
+              arith,
+              dot-carry u v h (near-flip (half-on-cos n w r b)) (half-on-sin n w r b) (cos-half w b)
+                  (sin-small w (omega arith)),
+            )
         | inr g ↦
             let w = t - d in
             let r : n + w ≡ half = omega (arith, F .reach) in
@@ -240,7 +261,8 @@ pub right : (x y : ℕ) → 0 < larger x y → Right (larger x y) x y (wide (ltb
 unfolding wide sharp
 right x y p = go (ltb x y) (ltb→lt x y) (nltb→le x y) p
   where
-    go : (b : Bool) → (T b → x < y) → (T (not b) → y ≤ x) → 0 < cond b y x → Right (cond b y x) x y (cond b (quarter - slope (ratio (cond b x y) (cond b y x))) (slope (ratio (cond b x y) (cond b y x))))
+    go : (b : Bool) → (T b → x < y) → (T (not b) → y ≤ x) → 0 < cond b y x
+        → Right (cond b y x) x y (cond b (quarter - slope (ratio (cond b x y) (cond b y x))) (slope (ratio (cond b x y) (cond b y x))))
     go true f g p = let h = under x y (f tt) in two x y (slope (ratio x y)) h (first x y (ratio x y) (ratio-near x y h p))
     go false f g p = let h = g tt in one y x (slope (ratio y x)) h (first y x (ratio y x) (ratio-near y x h p))
 
@@ -248,6 +270,8 @@ pub left : (x y : ℕ) → 0 < larger x y → Left (larger x y) x y (wide (ltb x
 unfolding wide sharp
 left x y p = go (ltb x y) (ltb→lt x y) (nltb→le x y) p
   where
-    go : (b : Bool) → (T b → x < y) → (T (not b) → y ≤ x) → 0 < cond b y x → Left (cond b y x) x y (half - cond b (quarter - slope (ratio (cond b x y) (cond b y x))) (slope (ratio (cond b x y) (cond b y x))))
+    go : (b : Bool) → (T b → x < y) → (T (not b) → y ≤ x) → 0 < cond b y x
+        → Left (cond b y x) x y (half - cond b (quarter - slope (ratio (cond b x y) (cond b y x)))
+        (slope (ratio (cond b x y) (cond b y x))))
     go true f g p = let h = under x y (f tt) in three x y (slope (ratio x y)) h (first x y (ratio x y) (ratio-near x y h p))
     go false f g p = let h = g tt in four y x (slope (ratio y x)) h (first y x (ratio y x) (ratio-near y x h p))

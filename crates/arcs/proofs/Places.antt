@@ -1,6 +1,6 @@
 -- S and C of document 01 at a fraction that is a whole number of 2 ^ -30, which may be negative, by the sums in that unit. Assumes nothing.
-use Prim.Native.Nat.{ℕ, _+_, _-_, _*_, _^_, _≤_, _<_}
-use mathlib.Core.Path.{_≡_, refl, sym, ap, ap₂, _∙_, subst}
+use Prim.Native.Nat.{ℕ, _+_, _-_, _*_, _<_}
+use mathlib.Core.Path.{_≡_, ap, ap₂, _∙_, subst}
 use native.Mathlib.Nat.{zero-add, add-zero}
 use native.Mathlib.Omega.{arith}
 use lib.Dec.{lit<}
@@ -28,12 +28,14 @@ cosineAt n m = difference (cp (n - m + (m - n))) (cm (n - m + (m - n))) D
 pub S-at : (a : Fraction) (n m : ℕ) → a ≋ difference n m G → S a ≋ sineAt n m
 S-at a n m h =
     same-trans (S a) (S (difference n m G)) (sineAt n m) (S-over (difference n m G) G-pos) (S-same a (difference n m G) h)
-    (subst (λ (d : ℕ). S (difference n m G) ≋ difference (sp (n - m) + sm (m - n)) (sm (n - m) + sp (m - n)) d) denominator-is (S-parts n m G G-pos))
+    (subst (λ (d : ℕ). S (difference n m G) ≋ difference (sp (n - m) + sm (m - n)) (sm (n - m) + sp (m - n)) d) denominator-is
+    (S-parts n m G G-pos))
 
 pub C-at : (a : Fraction) (n m : ℕ) → a ≋ difference n m G → C a ≋ cosineAt n m
 C-at a n m h =
     same-trans (C a) (C (difference n m G)) (cosineAt n m) (C-over (difference n m G) G-pos) (C-same a (difference n m G) h)
-    (subst (λ (d : ℕ). C (difference n m G) ≋ difference (cp (n - m + (m - n))) (cm (n - m + (m - n))) d) denominator-is (C-parts n m G G-pos))
+    (subst (λ (d : ℕ). C (difference n m G) ≋ difference (cp (n - m + (m - n))) (cm (n - m + (m - n))) d) denominator-is
+    (C-parts n m G G-pos))
 
 -- ---- a place on either side of 0
 sp-zero : sp 0 ≡ 0
@@ -66,13 +68,17 @@ cosine-neg n m k e = let a : n - m + (m - n) ≡ k = omega arith in ap (λ (i : 
 
 -- ---- t - e and t + e in units of 2 ^ -30
 pub less-at : (t e : Fraction) (n m : ℕ) → t ≋ n ÷ G → e ≋ m ÷ G → t ⊖ e ≋ difference n m G
-less-at t e n m h k = same-trans (t ⊖ e) (n ÷ G ⊖ m ÷ G) (difference n m G) (lit< {m = 0} {n = 1073741824 * 1073741824} tt) (difference-same t (n ÷ G) e (m ÷ G) h k) (go n m G)
+less-at t e n m h k =
+    same-trans (t ⊖ e) (n ÷ G ⊖ m ÷ G) (difference n m G) (lit< {m = 0} {n = 1073741824 * 1073741824} tt)
+    (difference-same t (n ÷ G) e (m ÷ G) h k) (go n m G)
   where
     go : (n m g : ℕ) → (n * g + 0 * g) * g + m * (g * g) ≡ n * (g * g) + (0 * g + m * g) * g
     go n m g = omega arith
 
 pub plus-at : (t e : Fraction) (n m : ℕ) → t ≋ n ÷ G → e ≋ m ÷ G → t ⊕ e ≋ difference (n + m) 0 G
-plus-at t e n m h k = same-trans (t ⊕ e) (n ÷ G ⊕ m ÷ G) (difference (n + m) 0 G) (lit< {m = 0} {n = 1073741824 * 1073741824} tt) (sum-same t (n ÷ G) e (m ÷ G) h k) (go n m G)
+plus-at t e n m h k =
+    same-trans (t ⊕ e) (n ÷ G ⊕ m ÷ G) (difference (n + m) 0 G) (lit< {m = 0} {n = 1073741824 * 1073741824} tt)
+    (sum-same t (n ÷ G) e (m ÷ G) h k) (go n m G)
   where
     go : (n m g : ℕ) → (n * g + m * g) * g + 0 * (g * g) ≡ (n + m) * (g * g) + (0 * g + 0 * g) * g
     go n m g = omega arith

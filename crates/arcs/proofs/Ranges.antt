@@ -1,11 +1,11 @@
 -- What the functions on whole numbers ask: that nothing overflows, and what each choice answers. Assumes nothing.
-use Prim.Native.Nat.{ℕ, zero, suc, _+_, _*_, _-_, _/_, _%_, _≤_, _<_}
+use Prim.Native.Nat.{ℕ, _+_, _*_, _-_, _/_, _%_, _≤_}
 use mathlib.Core.Path.{_≡_, sym, ap, _∙_, subst}
 use mathlib.Core.Bool.{Bool, true, false, cond}
 use native.Mathlib.Nat.{mul-le-mul, mul-le-mul-left, div-le-of-le-mul}
 use native.Mathlib.Omega.{arith}
 use Rattle.arc_rows.specs.ArcTangent.{arcTangent}
-use Rattle.arcs.specs.How.{quarter, half, place, lean, straight, bend, slope, sharp, wide, angle}
+use Rattle.arcs.specs.How.{quarter, half, tableRow, lean, straight, bend, slope, sharp, wide, angle}
 use Rattle.arcs.proofs.Rest.{close}
 
 -- ---- `slope`: l is the table's second number
@@ -13,13 +13,13 @@ abbrev pub straightBy : ℕ → ℕ → ℕ
 straightBy w l = w % 262144 * l / 67108864
 
 abbrev pub bendBy : ℕ → ℕ → ℕ
-bendBy w l = straightBy w l * straightBy w l * place w / 137438953472
+bendBy w l = straightBy w l * straightBy w l * tableRow w / 137438953472
 
 pub record Steps (w l : ℕ) : Type 0 where
   pub product : w % 262144 * l ≤ 562949953421312
   pub straight-le : straightBy w l ≤ 8388608
   pub square : straightBy w l * straightBy w l ≤ 70368744177664
-  pub cube : straightBy w l * straightBy w l * place w ≤ 9007199254740992
+  pub cube : straightBy w l * straightBy w l * tableRow w ≤ 9007199254740992
   pub bend-le : bendBy w l ≤ straightBy w l
 
 pub steps : (w l : ℕ) → w ≤ 33554432 → l ≤ 2147483648 → Steps w l
@@ -27,13 +27,13 @@ steps w l h k =
     let p : w % 262144 * l ≤ 262144 * 2147483648 = mul-le-mul (rest-le) k in
     let s : straightBy w l ≤ 8388608 = omega arith in
     let q : straightBy w l * straightBy w l ≤ 8388608 * 8388608 = mul-le-mul s s in
-    let i : place w ≤ 128 = omega arith in
+    let i : tableRow w ≤ 128 = omega arith in
     record {
       product = p;
       straight-le = s;
       square = q;
       cube = mul-le-mul q i;
-      bend-le = div-le-of-le-mul 137438953472 {n = straightBy w l} (under (straightBy w l) (place w) s i);
+      bend-le = div-le-of-le-mul 137438953472 {n = straightBy w l} (under (straightBy w l) (tableRow w) s i);
     }
   where
     rest-le : w % 262144 ≤ 262144
@@ -42,32 +42,36 @@ steps w l h k =
     under : (s k : ℕ) → s ≤ 8388608 → k ≤ 128 → s * s * k ≤ 137438953472 * s
     under s k i j = omega (arith, mul-le-mul-left s (mul-le-mul i j))
 
-pub slope-is : (w a l : ℕ) → w ≤ 33554432 → a ≡ arcTangent (place w) → a ≤ 843314857 → l ≡ lean (place w) → (a + (straightBy w l - bendBy w l) ≡ slope w) × (a + (straightBy w l - bendBy w l) ≤ 851703465)
+-- what the function gives, from the row's angle a and its second number l
+abbrev pub Sloped : ℕ → ℕ → ℕ → Type 0
+Sloped w a l = (a + (straightBy w l - bendBy w l) ≡ slope w) × (a + (straightBy w l - bendBy w l) ≤ 851703465)
+
+pub slope-is : (w a l : ℕ) → w ≤ 33554432 → a ≡ arcTangent (tableRow w) → a ≤ 843314857 → l ≡ lean (tableRow w) → Sloped w a l
 unfolding slope
-slope-is w a l h e k d = subst (λ (m : ℕ). (a + (straightBy w m - bendBy w m) ≡ arcTangent (place w) + (straight w - bend w)) × (a + (straightBy w m - bendBy w m) ≤ 851703465)) (sym d) (ap (λ (n : ℕ). n + (straight w - bend w)) e, omega (arith, close w h .least))
+slope-is w a l h e k d =
+    subst (λ (m : ℕ). (a + (straightBy w m - bendBy w m) ≡ arcTangent (tableRow w) + (straight w - bend w))
+    × (a + (straightBy w m - bendBy w m) ≤ 851703465)) (sym d)
+    (ap (λ (n : ℕ). n + (straight w - bend w)) e, omega (arith, close w h .least))
 
 -- ---- `sharp`
-pub sharp-is : (steep : Bool) (w t r : ℕ) → t ≡ slope w → t ≤ 851703465 → r ≡ cond steep (quarter - t) t → (r ≡ sharp steep w) × (r ≤ 1686629713)
+pub sharp-is : (steep : Bool) (w t r : ℕ) → t ≡ slope w → t ≤ 851703465 → r ≡ cond steep (quarter - t) t
+    → (r ≡ sharp steep w) × (r ≤ quarter)
 unfolding sharp
 sharp-is true w t r e h k = (k ∙ ap (λ (n : ℕ). quarter - n) e, omega arith)
 sharp-is false w t r e h k = (k ∙ e, omega arith)
 
 -- ---- `angle`
-pub wide-le : (left : Bool) (t : ℕ) → t ≤ 1686629713 → cond left (half - t) t ≤ 3373259426
+pub wide-le : (left : Bool) (t : ℕ) → t ≤ quarter → cond left (half - t) t ≤ half
 wide-le true t h = omega arith
 wide-le false t h = omega arith
 
-pub angle-is : (steep left : Bool) (w t n : ℕ) → t ≡ sharp steep w → t ≤ 1686629713 → n ≡ cond left (half - t) t → ((n + 128) / 256 ≡ angle steep left w) × ((n + 128) / 256 ≤ 13176795)
+pub angle-is : (steep left : Bool) (w t n : ℕ) → t ≡ sharp steep w → t ≤ quarter → n ≡ cond left (half - t) t
+    → ((n + 128) / 256 ≡ angle steep left w) × ((n + 128) / 256 ≤ 13176795)
 unfolding angle wide
-angle-is steep left w t n e h k = (ap (λ (m : ℕ). (m + 128) / 256) (k ∙ ap (λ (m : ℕ). cond left (half - m) m) e), last (wide-le left t h))
+angle-is steep left w t n e h k = (
+  ap (λ (m : ℕ). (m + 128) / 256) (k ∙ ap (λ (m : ℕ). cond left (half - m) m) e),
+  last (subst (λ (m : ℕ). m ≤ half) (sym k) (wide-le left t h)),
+)
   where
-    last : cond left (half - t) t ≤ 3373259426 → (n + 128) / 256 ≤ 13176795
-    last g = let i : n ≤ 3373259426 = subst (λ (m : ℕ). m ≤ 3373259426) (sym k) g in omega arith
-
--- ---- `settle`
-pub not-zero : (n r : ℕ) → n < r * r → 0 < r
-not-zero n zero h = absurd (no h)
-  where
-    no : n < 0 * 0 → ⊥
-    no g = omega arith
-not-zero n (suc r) h = omega arith
+    last : n ≤ half → (n + 128) / 256 ≤ 13176795
+    last g = omega arith

@@ -3,7 +3,8 @@ use mathlib.Core.Path.{_≡_, refl, sym, ap, _∙_, subst}
 use mathlib.Core.Logic.{_⊎_, inl, inr}
 use mathlib.Core.Bool.{Bool, true, false, not, cond}
 use Prim.Native.Nat.{ℕ, _+_, _-_, _*_, _/_, _%_, _^_, _≤_, _<_}
-use native.Mathlib.Nat.{le-refl, le-trans, le-of-eq, le-of-lt, le-antisymm, lt-of-le-of-lt, lt-of-lt-of-le, mul-le-mul-right, mul-lt-mul-of-pos-right, le-of-mul-le-mul-right, div-mul-le-self, lt-div-mul-add, div-le-of-le-mul}
+use native.Mathlib.Nat.{le-refl, le-trans, le-of-eq, le-of-lt, le-antisymm, lt-of-le-of-lt, lt-of-lt-of-le, mul-le-mul-right}
+use native.Mathlib.Nat.{mul-lt-mul-of-pos-right, le-of-mul-le-mul-right, div-mul-le-self, lt-div-mul-add, div-le-of-le-mul}
 use native.Mathlib.Omega.{arith}
 use lib.Dec.{T, ltb, ltb→lt, nltb→le, nleb→lt, lit<, lit≤}
 use lib.Pow.{pow-pos}
@@ -12,22 +13,27 @@ use lib.Ieee.Exact.{HasValue}
 use lib.Ieee.Fits.{add-fits}
 use Rattle.numbers.specs.Door.{finite}
 use Rattle.units.specs.Units.{mag, rounded, unity}
-use Rattle.units.specs.Patterns.{val}
+use Rattle.units.specs.Patterns.{val, bare}
 use Rattle.units.proofs.Grid.{cell-abs, grid-mono}
 use Rattle.units.proofs.Held.{grid-exact}
 use Rattle.units.proofs.Errors.{Within, unity-pos, rounded-mono, div-abs}
 use Rattle.units.proofs.Add.{add-value}
 use Rattle.units.proofs.Multiply.{div-value}
 use Rattle.units.proofs.Patterns.{bits-val}
+use Rattle.units.proofs.PatternOrder.{val-le-back}
+use Rattle.units.proofs.Bits.{mag-bare}
+use Rattle.units.proofs.Door.{finite-of, finite-no-nan}
 use Rattle.series.proofs.Order.{here-or-on}
 use Rattle.units.proofs.Values.{mag-is}
 use Rattle.arcs.specs.How.{Sorted, ratio, smaller, larger}
 use Rattle.arcs.proofs.FirstOctant.{Ratio}
-use Rattle.arcs.proofs.Fields.{at-least-one, at-most-two, past-one}
-use Rattle.arcs.proofs.Patterns.{bare, no-nan, finite-of, sign-is, mag-val, sign-val}
+use Rattle.arcs.proofs.PastOne.{past-one}
+use Rattle.arcs.proofs.SignBits.{sign-is, sign-bits}
 
 pub at-most-one : (u v : ℕ) → u ≤ v → 0 < v → rounded u v ≤ unity
-at-most-one u v h p = le-trans (grid-mono binary32 u v (1 * 2 ^ 149) (2 ^ 149) p (pow-pos 149) (le-trans (mul-le-mul-right (2 ^ 149) h) (le-of-eq (turn v (2 ^ 149))))) (le-of-eq (grid-exact binary32 1 149 (lit< tt) (lit< tt)))
+at-most-one u v h p =
+    le-trans (grid-mono binary32 u v (1 * 2 ^ 149) (2 ^ 149) p (pow-pos 149)
+    (le-trans (mul-le-mul-right (2 ^ 149) h) (le-of-eq (turn v (2 ^ 149))))) (le-of-eq (grid-exact binary32 1 149 (lit< tt) (lit< tt)))
   where
     turn : (v p : ℕ) → v * p ≡ 1 * p * v
     turn v p = omega arith
@@ -55,14 +61,20 @@ sum-near n h = elim (here-or-on n unity) [
   | inl g ↦
       let k = cell-abs 24 ((unity + n) * unity) unity 126 unity-pos (mul-lt-mul-of-pos-right (less unity g) unity-pos) in
       within (rounded (unity + n) unity) (unity + n) unity (2 ^ 125) unity-pos (k .0) (k .1)
-  | inr g ↦ let e = le-antisymm h g in subst (λ (k : ℕ). Within (rounded (unity + k) unity) (unity + k) (2 ^ 125)) (sym e) (record { up = le-trans (le-of-eq two) (lit≤ tt); low = le-trans (lit≤ {m = unity + unity} {n = 2 ^ 150 + 2 ^ 125} tt) (le-of-eq (ap (λ (k : ℕ). k + 2 ^ 125) (sym two))) })
+  | inr g ↦ let e = le-antisymm h g in subst (λ (k : ℕ). Within (rounded (unity + k) unity) (unity + k) (2 ^ 125)) (sym e) (record {
+    up = le-trans (le-of-eq two) (lit≤ tt);
+    low = le-trans (lit≤ {m = unity + unity} {n = 2 ^ 150 + 2 ^ 125} tt) (le-of-eq (ap (λ (k : ℕ). k + 2 ^ 125) (sym two)));
+  })
 ]
   where
     less : (u : ℕ) → n < u → u + n < 2 * u
     less u k = omega arith
 
     within : (g x u e : ℕ) → 0 < u → 2 * (g * u) ≤ 2 * (x * u) + u * (2 * e) → 2 * (x * u) ≤ 2 * (g * u) + u * (2 * e) → Within g x e
-    within g x u e p i j = record { up = le-of-mul-le-mul-right {m = g} {n = x + e} {k = u} (omega arith) p; low = le-of-mul-le-mul-right {m = x} {n = g + e} {k = u} (omega arith) p }
+    within g x u e p i j = record {
+      up = le-of-mul-le-mul-right {m = g} {n = x + e} {k = u} (omega arith) p;
+      low = le-of-mul-le-mul-right {m = x} {n = g + e} {k = u} (omega arith) p;
+    }
 
 pub ratio-near : (u v : ℕ) → u ≤ v → 0 < v → Ratio u v (ratio u v)
 unfolding ratio
@@ -72,9 +84,14 @@ ratio-near u v h p =
     let d = div-abs u v p (twice p h) in
     let s = sum-near n (at-most-one u v h p) in
     record {
-      small = div-le-of-le-mul (2 ^ 124) {n = 33554432} (le-trans (rest z unity (le-trans (sum-high n (at-most-one u v h p)) (lit≤ {m = 2 ^ 150} {n = unity + unity} tt))) (lit≤ {m = 2 ^ 149} {n = 2 ^ 124 * 33554432} tt));
+      small =
+          div-le-of-le-mul (2 ^ 124) {n = 33554432}
+          (le-trans (rest z unity (le-trans (sum-high n (at-most-one u v h p)) (lit≤ {m = 2 ^ 150} {n = unity + unity} tt)))
+          (lit≤ {m = 2 ^ 149} {n = 2 ^ 124 * 33554432} tt));
       up = above ((z - unity) / 2 ^ 124) n z (2 ^ 124) (pow-pos 124) (sum-low n) (div-mul-le-self (z - unity) (2 ^ 124)) (s .up) (d .up);
-      low = below ((z - unity) / 2 ^ 124) n z (2 ^ 124) (pow-pos 124) (sum-low n) (le-of-lt (lt-div-mul-add {a = z - unity} (pow-pos 124))) (s .low) (d .low);
+      low =
+          below ((z - unity) / 2 ^ 124) n z (2 ^ 124) (pow-pos 124) (sum-low n) (le-of-lt (lt-div-mul-add {a = z - unity} (pow-pos 124)))
+          (s .low) (d .low);
     }
   where
     twice : 0 < v → u ≤ v → u < 2 * v
@@ -83,12 +100,14 @@ ratio-near u v h p =
     rest : (z k : ℕ) → z ≤ k + k → z - k ≤ k
     rest z k i = omega arith
 
-    above : (w n z m : ℕ) → 0 < m → 33554432 * m ≤ z → w * m ≤ z - 33554432 * m → z ≤ 33554432 * m + n + 2 * m → n * v ≤ u * (33554432 * m) + v * (2 * m) → w * v ≤ 33554432 * u + 4 * v
+    above : (w n z m : ℕ) → 0 < m → 33554432 * m ≤ z → w * m ≤ z - 33554432 * m → z ≤ 33554432 * m + n + 2 * m
+        → n * v ≤ u * (33554432 * m) + v * (2 * m) → w * v ≤ 33554432 * u + 4 * v
     above w n z m i a j s k =
         let q : w * m ≤ n + 2 * m = omega arith in
         le-of-mul-le-mul-right {m = w * v} {n = 33554432 * u + 4 * v} {k = m} (omega (arith, mul-le-mul-right v q)) i
 
-    below : (w n z m : ℕ) → 0 < m → 33554432 * m ≤ z → z - 33554432 * m ≤ w * m + m → 33554432 * m + n ≤ z + 2 * m → u * (33554432 * m) ≤ n * v + v * (2 * m) → 33554432 * u ≤ w * v + 5 * v
+    below : (w n z m : ℕ) → 0 < m → 33554432 * m ≤ z → z - 33554432 * m ≤ w * m + m → 33554432 * m + n ≤ z + 2 * m
+        → u * (33554432 * m) ≤ n * v + v * (2 * m) → 33554432 * u ≤ w * v + 5 * v
     below w n z m i a j s k =
         let q : n ≤ w * m + 3 * m = omega arith in
         le-of-mul-le-mul-right {m = 33554432 * u} {n = w * v + 5 * v} {k = m} (omega (arith, mul-le-mul-right v q)) i
@@ -125,10 +144,9 @@ module _ (u v : Float) (s : Sorted u v) where
   r = div binary32 u v
 
   r-value : HasValue r false (rounded (mag u) (mag v)) unity
-  r-value = div-value binary32 u v (mag u) (mag v) (s .first) (s .second) (s .some) (lt-of-le-of-lt (at-most-one (mag u) (mag v) (s .order) (s .some)) (lit< tt))
-
-  r-finite : T (finite r)
-  r-finite = finite-of r false (rounded (mag u) (mag v)) unity r-value
+  r-value =
+      div-value binary32 u v (mag u) (mag v) (s .first) (s .second) (s .some)
+      (lt-of-le-of-lt (at-most-one (mag u) (mag v) (s .order) (s .some)) (lit< tt))
 
   -- with 1 before it
   abbrev z : Float
@@ -141,31 +159,36 @@ module _ (u v : Float) (s : Sorted u v) where
   below-one = at-most-one (mag u) (mag v) (s .order) (s .some)
 
   z-value : HasValue z false k unity
-  z-value = add-value binary32 (ofBits binary32 1065353216) r unity (rounded (mag u) (mag v)) (bits-val 1065353216 (lit< tt)) r-value (lt-of-le-of-lt (sum-high (rounded (mag u) (mag v)) below-one) (lit< tt))
+  z-value =
+      add-value binary32 (ofBits binary32 1065353216) r unity (rounded (mag u) (mag v)) (bits-val 1065353216 (lit< tt)) r-value
+      (lt-of-le-of-lt (sum-high (rounded (mag u) (mag v)) below-one) (lit< tt))
 
   z-finite : T (finite z)
   z-finite = finite-of z false k unity z-value
 
   pub sum-no-nan : T (not (isNan z))
-  sum-no-nan = no-nan z z-finite
+  sum-no-nan = finite-no-nan z z-finite
 
   abbrev b : ℕ
   b = toBits binary32 z
 
   bare-is : bare b ≡ b
-  bare-is = clear (nleb→lt 2147483648 b (subst (λ (t : Bool). T (not t)) (sym (sym (sign-val z (add-fits binary32 (ofBits binary32 1065353216) r) z-finite) ∙ sign-is z false k unity z-value)) tt))
+  bare-is =
+      clear (nleb→lt 2147483648 b
+      (subst (λ (t : Bool). T (not t))
+      (sym (sym (sign-bits z (add-fits binary32 (ofBits binary32 1065353216) r) z-finite) ∙ sign-is z false k unity z-value)) tt))
     where
       clear : b < 2147483648 → b % 2147483648 ≡ b
       clear h = omega arith
 
   sum-val : val b ≡ k
-  sum-val = ap val (sym bare-is) ∙ sym (mag-val z (add-fits binary32 (ofBits binary32 1065353216) r) z-finite) ∙ mag-is z false k z-value
+  sum-val = ap val (sym bare-is) ∙ sym (mag-bare z (add-fits binary32 (ofBits binary32 1065353216) r) z-finite) ∙ mag-is z false k z-value
 
   pub sum-least : 1065353216 ≤ b
-  sum-least = at-least-one b (le-trans (sum-low (rounded (mag u) (mag v))) (le-of-eq (sym sum-val)))
+  sum-least = val-le-back 1065353216 b (le-trans (sum-low (rounded (mag u) (mag v))) (le-of-eq (sym sum-val)))
 
   pub sum-most : b ≤ 1073741824
-  sum-most = at-most-two b (le-trans (le-of-eq sum-val) (sum-high (rounded (mag u) (mag v)) below-one))
+  sum-most = val-le-back b 1073741824 (le-trans (le-of-eq sum-val) (sum-high (rounded (mag u) (mag v)) below-one))
 
   pub ratio-is : (4 * (b - 1065353216) ≡ ratio (mag u) (mag v)) × (4 * (b - 1065353216) ≤ 33554432)
   unfolding ratio

@@ -3,7 +3,8 @@ use Prim.Native.Nat.{ℕ, _+_, _-_, _*_, _^_, _≤_, _<_}
 use mathlib.Core.Path.{_≡_, refl, sym, ap, _∙_, subst}
 use mathlib.Core.Logic.{inl, inr}
 use mathlib.Core.Bool.{Bool, true, false}
-use native.Mathlib.Nat.{le-trans, le-of-eq, le-antisymm, lt-of-le-of-lt, mul-comm, mul-pos, mul-le-mul, mul-le-mul-right, le-of-mul-le-mul-right, lt-of-mul-lt-mul-right, zero-mul}
+use native.Mathlib.Nat.{le-trans, le-of-eq, le-antisymm, lt-of-le-of-lt, mul-comm, mul-pos, mul-le-mul, mul-le-mul-right}
+use native.Mathlib.Nat.{le-of-mul-le-mul-right, lt-of-mul-lt-mul-right, zero-mul}
 use native.Mathlib.Omega.{arith}
 use lib.Dec.{T, lit<, lit≤}
 use lib.IntN.{pos}
@@ -22,22 +23,24 @@ use Rattle.units.proofs.Patterns.{one-value}
 use Rattle.roots.specs.Root.{squareRoot}
 use Rattle.roots.proofs.Laws.{rooted}
 use Rattle.series.proofs.Order.{here-or-on}
-use Rattle.arcs.specs.How.{unit, side}
+use Rattle.arcs.specs.How.{floatOne, side}
 use Rattle.arcs.specs.Wedges.{signBit}
 use Rattle.arcs.proofs.Transfer.{Root}
-use Rattle.arcs.proofs.Patterns.{in-units}
+use Rattle.arcs.proofs.SignBits.{in-units}
 
 -- ---- g is x, but for 9 parts in 2 ^ 27
 record Close (g x : ℕ) : Type 0 where
   up : 134217728 * g ≤ 134217737 * x
   low : 134217719 * x ≤ 134217728 * g
 
-close-of : (g x h : ℕ) → 16777216 * g ≤ 16777217 * x + 8388608 * h → 16777216 * x ≤ 16777216 * g + x + 8388608 * h → 67108864 * h ≤ x → Close g x
+close-of : (g x h : ℕ) → 16777216 * g ≤ 16777217 * x + 8388608 * h → 16777216 * x ≤ 16777216 * g + x + 8388608 * h → 67108864 * h ≤ x
+    → Close g x
 close-of g x h a b c = record { up = omega arith; low = omega arith }
 
 -- a sum of x units
 close-sum : (x : ℕ) → 67108864 ≤ x → Close (rounded x unity) x
-close-sum x h = let r = grid-rel binary32 x unity unity-pos in close-of (rounded x unity) x 1 (up (rounded x unity) unity unity-pos (r .0)) (low (rounded x unity) unity unity-pos (r .1)) h
+close-sum x h = let r = grid-rel binary32 x unity unity-pos in
+    close-of (rounded x unity) x 1 (up (rounded x unity) unity unity-pos (r .0)) (low (rounded x unity) unity unity-pos (r .1)) h
   where
     up : (g u : ℕ) → 0 < u → 16777216 * (g * u) ≤ 16777217 * (x * u) + 8388608 * u → 16777216 * g ≤ 16777217 * x + 8388608 * 1
     up g u p k = le-of-mul-le-mul-right {m = 16777216 * g} {n = 16777217 * x + 8388608 * 1} {k = u} (omega arith) p
@@ -47,12 +50,16 @@ close-sum x h = let r = grid-rel binary32 x unity unity-pos in close-of (rounded
 
 -- a product of w
 close-product : (w : ℕ) → 67108864 * unity ≤ w → Close (rounded w (unity * unity) * unity) w
-close-product w h = let r = grid-rel binary32 w (unity * unity) (mul-pos unity-pos unity-pos) in close-of (rounded w (unity * unity) * unity) w unity (up (rounded w (unity * unity)) unity unity-pos (r .0)) (low (rounded w (unity * unity)) unity unity-pos (r .1)) h
+close-product w h = let r = grid-rel binary32 w (unity * unity) (mul-pos unity-pos unity-pos) in
+    close-of (rounded w (unity * unity) * unity) w unity (up (rounded w (unity * unity)) unity unity-pos (r .0))
+    (low (rounded w (unity * unity)) unity unity-pos (r .1)) h
   where
-    up : (g u : ℕ) → 0 < u → 16777216 * (g * (u * u)) ≤ 16777217 * (w * u) + 8388608 * (u * u) → 16777216 * (g * u) ≤ 16777217 * w + 8388608 * u
+    up : (g u : ℕ) → 0 < u → 16777216 * (g * (u * u)) ≤ 16777217 * (w * u) + 8388608 * (u * u)
+        → 16777216 * (g * u) ≤ 16777217 * w + 8388608 * u
     up g u p k = le-of-mul-le-mul-right {m = 16777216 * (g * u)} {n = 16777217 * w + 8388608 * u} {k = u} (omega arith) p
 
-    low : (g u : ℕ) → 0 < u → 16777216 * (w * u) ≤ 16777216 * (g * (u * u)) + w * u + 8388608 * (u * u) → 16777216 * w ≤ 16777216 * (g * u) + w + 8388608 * u
+    low : (g u : ℕ) → 0 < u → 16777216 * (w * u) ≤ 16777216 * (g * (u * u)) + w * u + 8388608 * (u * u)
+        → 16777216 * w ≤ 16777216 * (g * u) + w + 8388608 * u
     low g u p k = le-of-mul-le-mul-right {m = 16777216 * w} {n = 16777216 * (g * u) + w + 8388608 * u} {k = u} (omega arith) p
 
 close-pos : (g x : ℕ) → Close g x → 0 < x → 0 < g
@@ -96,7 +103,8 @@ pub record Near (s : Float) (m : ℕ) : Type 0 where
   pub low : 2097151 * m ≤ 2097152 * (mag s * mag s)
   pub high : 2097152 * (mag s * mag s) ≤ 2097153 * m
 
-module _ (u v : Float) (x y : ℕ) (hu : HasValue u false (rounded x unity) unity) (hv : HasValue v false (rounded y unity) unity) (lx : 67108864 ≤ x) (ly : 67108864 ≤ y) (least : 134217728 * unity ≤ x * y) (most : x * y ≤ unity * unity) where
+module _ (u v : Float) (x y : ℕ) (hu : HasValue u false (rounded x unity) unity) (hv : HasValue v false (rounded y unity) unity)
+    (lx : 67108864 ≤ x) (ly : 67108864 ≤ y) (least : 134217728 * unity ≤ x * y) (most : x * y ≤ unity * unity) where
   abbrev a : ℕ
   a = rounded x unity
 
@@ -136,7 +144,8 @@ module _ (u v : Float) (x y : ℕ) (hu : HasValue u false (rounded x unity) unit
   product-value : HasValue (mul binary32 u v) false r unity
   product-value =
       positive-value binary32 (mul binary32 u v) r (rounded (0 * b) (unity * unity))
-      (mul-part binary32 u v false a 0 b (plus-part binary32 u a hu) hv (lt-of-le-of-lt (mul-le (a * b) n-most) (lit< tt)) (lt-of-le-of-lt (le-of-eq none) (lit< tt))) r-pos
+      (mul-part binary32 u v false a 0 b (plus-part binary32 u a hu) hv (lt-of-le-of-lt (mul-le (a * b) n-most) (lit< tt))
+      (lt-of-le-of-lt (le-of-eq none) (lit< tt))) r-pos
     where
       none : rounded (0 * b) (unity * unity) ≡ 0
       none = ap (λ (k : ℕ). rounded k (unity * unity)) (zero-mul b) ∙ grid-zero binary32 (unity * unity) (mul-pos unity-pos unity-pos)
@@ -148,8 +157,12 @@ module _ (u v : Float) (x y : ℕ) (hu : HasValue u false (rounded x unity) unit
       let e : mag s ≡ R .q = mag-is s false (R .q) (R .value) in
       record {
         value = subst (λ (k : ℕ). HasValue s false k unity) (sym e) (R .value);
-        low = subst (λ (k : ℕ). 2097151 * (x * y) ≤ 2097152 * (k * k)) (sym e) (root-low (x * y) (r * unity) (R .q * R .q) (product-low (a * b) (x * y) (r * unity) n-low (close .low)) (R .low));
-        high = subst (λ (k : ℕ). 2097152 * (k * k) ≤ 2097153 * (x * y)) (sym e) (root-up (x * y) (r * unity) (R .q * R .q) (product-up (a * b) (x * y) (r * unity) n-up (close .up)) (R .up));
+        low =
+            subst (λ (k : ℕ). 2097151 * (x * y) ≤ 2097152 * (k * k)) (sym e)
+            (root-low (x * y) (r * unity) (R .q * R .q) (product-low (a * b) (x * y) (r * unity) n-low (close .low)) (R .low));
+        high =
+            subst (λ (k : ℕ). 2097152 * (k * k) ≤ 2097153 * (x * y)) (sym e)
+            (root-up (x * y) (r * unity) (R .q * R .q) (product-up (a * b) (x * y) (r * unity) n-up (close .up)) (R .up));
       }
 
 -- ---- q below 1 is below it by 2 ^ -24 or more: 2 ^ 125 units
@@ -169,8 +182,12 @@ apart M f h = elim (here-or-on M (2 ^ 23 * 2 ^ 125)) [
     long k p e g = omega (arith, mul-le-mul-right p g)
 
 -- the values of a sum: i units, none left on the other side
-plus-of : (z : Float) (i j x : ℕ) → Part binary32 z (rounded i unity) (rounded j unity) → i ≡ x → 67108864 ≤ x → HasValue z false (rounded x unity) unity
-plus-of z i j x h e l = subst (λ (k : ℕ). HasValue z false (rounded k unity) unity) e (positive-value binary32 z (rounded i unity) (rounded j unity) h (subst (λ (k : ℕ). 0 < rounded k unity) (sym e) (close-pos (rounded x unity) x (close-sum x l) (more l))))
+plus-of : (z : Float) (i j x : ℕ) → Part binary32 z (rounded i unity) (rounded j unity) → i ≡ x → 67108864 ≤ x
+    → HasValue z false (rounded x unity) unity
+plus-of z i j x h e l =
+    subst (λ (k : ℕ). HasValue z false (rounded k unity) unity) e
+    (positive-value binary32 z (rounded i unity) (rounded j unity) h
+    (subst (λ (k : ℕ). 0 < rounded k unity) (sym e) (close-pos (rounded x unity) x (close-sum x l) (more l))))
   where
     more : 67108864 ≤ x → 0 < x
     more g = omega arith
@@ -198,9 +215,9 @@ one-fits : (s : Bool) → T (fits binary32 (fin s 1 (pos 0)))
 unfolding fits
 one-fits s = tt
 
-unit-part : Part binary32 unit unity 0
+float-one-part : Part binary32 floatOne unity 0
 unfolding ofBits
-unit-part = (refl, refl)
+float-one-part = (refl, refl)
 
 under : (x : ℕ) → x ≤ 2 * unity → rounded x unity < 2 ^ 277
 under x h = lt-of-le-of-lt (sum-le x (lt-of-le-of-lt h (lit< tt))) (lit< tt)
@@ -215,8 +232,12 @@ module _ (q : Float) (f : T (fits binary32 q)) (h : T (finite q)) (h' : mag q �
   abbrev y : ℕ
   y = unity + M
 
-  sub-of : (i j : ℕ) → Part binary32 q i j → i ≤ unity → j ≤ unity → (k : ℕ) → unity + j - i ≡ k → 67108864 ≤ k → HasValue (sub binary32 unit q) false (rounded k unity) unity
-  sub-of i j p l m k e g = plus-of (sub binary32 unit q) (unity + j - (0 + i)) (0 + i - (unity + j)) k (sub-part binary32 unit q unity 0 i j unit-part p (under (unity + j - (0 + i)) (most unity m)) (under (0 + i - (unity + j)) (other unity l))) (bare unity e) g
+  sub-of : (i j : ℕ) → Part binary32 q i j → i ≤ unity → j ≤ unity → (k : ℕ) → unity + j - i ≡ k → 67108864 ≤ k
+      → HasValue (sub binary32 floatOne q) false (rounded k unity) unity
+  sub-of i j p l m k e g =
+      plus-of (sub binary32 floatOne q) (unity + j - (0 + i)) (0 + i - (unity + j)) k
+      (sub-part binary32 floatOne q unity 0 i j float-one-part p (under (unity + j - (0 + i)) (most unity m))
+      (under (0 + i - (unity + j)) (other unity l))) (plain unity e) g
     where
       most : (u : ℕ) → j ≤ u → u + j - (0 + i) ≤ 2 * u
       most u n = omega arith
@@ -224,11 +245,15 @@ module _ (q : Float) (f : T (fits binary32 q)) (h : T (finite q)) (h' : mag q �
       other : (u : ℕ) → i ≤ u → 0 + i - (u + j) ≤ 2 * u
       other u n = omega arith
 
-      bare : (u : ℕ) → u + j - i ≡ k → u + j - (0 + i) ≡ k
-      bare u n = omega arith
+      plain : (u : ℕ) → u + j - i ≡ k → u + j - (0 + i) ≡ k
+      plain u n = omega arith
 
-  add-of : (i j : ℕ) → Part binary32 q i j → i ≤ unity → j ≤ unity → (k : ℕ) → unity + i - j ≡ k → 67108864 ≤ k → HasValue (add binary32 unit q) false (rounded k unity) unity
-  add-of i j p l m k e g = plus-of (add binary32 unit q) (unity + i - (0 + j)) (0 + j - (unity + i)) k (add-part binary32 unit q unity 0 i j unit-part p (under (unity + i - (0 + j)) (most unity l)) (under (0 + j - (unity + i)) (other unity m))) (bare unity e) g
+  add-of : (i j : ℕ) → Part binary32 q i j → i ≤ unity → j ≤ unity → (k : ℕ) → unity + i - j ≡ k → 67108864 ≤ k
+      → HasValue (add binary32 floatOne q) false (rounded k unity) unity
+  add-of i j p l m k e g =
+      plus-of (add binary32 floatOne q) (unity + i - (0 + j)) (0 + j - (unity + i)) k
+      (add-part binary32 floatOne q unity 0 i j float-one-part p (under (unity + i - (0 + j)) (most unity l))
+      (under (0 + j - (unity + i)) (other unity m))) (plain unity e) g
     where
       most : (u : ℕ) → i ≤ u → u + i - (0 + j) ≤ 2 * u
       most u n = omega arith
@@ -236,8 +261,8 @@ module _ (q : Float) (f : T (fits binary32 q)) (h : T (finite q)) (h' : mag q �
       other : (u : ℕ) → j ≤ u → 0 + j - (u + i) ≤ 2 * u
       other u n = omega arith
 
-      bare : (u : ℕ) → u + i - j ≡ k → u + i - (0 + j) ≡ k
-      bare u n = omega arith
+      plain : (u : ℕ) → u + i - j ≡ k → u + i - (0 + j) ≡ k
+      plain u n = omega arith
 
   all : M * M + x * y ≡ unity * unity
   all = factors M unity h'
@@ -287,18 +312,28 @@ module _ (q : Float) (f : T (fits binary32 q)) (h : T (finite q)) (h' : mag q �
     unfolding side
     near = go (signBit q) (in-units q f h)
       where
-        go : (s : Bool) → HasValue q s M unity → Near (squareRoot (mul binary32 (sub binary32 unit q) (add binary32 unit q))) (x * y)
+        go : (s : Bool) → HasValue q s M unity
+            → Near (squareRoot (mul binary32 (sub binary32 floatOne q) (add binary32 floatOne q))) (x * y)
         go false v =
             let p = plus-part binary32 q M v in
-            root-near (sub binary32 unit q) (add binary32 unit q) x y (sub-of M 0 p h' none x (less unity) x-least) (add-of M 0 p h' none y (keep unity) y-least) x-least y-least least most
+            root-near (sub binary32 floatOne q) (add binary32 floatOne q) x y (sub-of M 0 p h' none x (less unity) x-least)
+            (add-of M 0 p h' none y (keep unity) y-least) x-least y-least least most
         go true v =
             let p = minus-part binary32 q M v in
             let e : y * x ≡ x * y = mul-comm y x in
-            subst (λ (k : ℕ). Near (squareRoot (mul binary32 (sub binary32 unit q) (add binary32 unit q))) k) e
-            (root-near (sub binary32 unit q) (add binary32 unit q) y x (sub-of 0 M p none h' y (keep unity) y-least) (add-of 0 M p none h' x (less unity) x-least) y-least x-least (le-trans least (le-of-eq (sym e))) (le-trans (le-of-eq e) most))
+            subst (λ (k : ℕ). Near (squareRoot (mul binary32 (sub binary32 floatOne q) (add binary32 floatOne q))) k) e
+            (root-near (sub binary32 floatOne q) (add binary32 floatOne q) y x (sub-of 0 M p none h' y (keep unity) y-least)
+            (add-of 0 M p none h' x (less unity) x-least) y-least x-least (le-trans least (le-of-eq (sym e)))
+            (le-trans (le-of-eq e) most))
 
     root-below : Root unity M (mag (side q))
-    root-below = record { Z = x * y; sum = all; low = near .low; high = near .high; some = inr (go (2 ^ 125) unity (x * y) refl (mul-le-mul far high)) }
+    root-below = record {
+      Z = x * y;
+      sum = all;
+      low = near .low;
+      high = near .high;
+      some = inr (go (2 ^ 125) unity (x * y) refl (mul-le-mul far high));
+    }
       where
         go : (p u z : ℕ) → u ≡ 16777216 * p → p * u ≤ z → u * u ≤ 16777216 * z
         go p u z e k = omega (arith, ap (λ (w : ℕ). w * u) e)
@@ -309,7 +344,9 @@ module _ (q : Float) (f : T (fits binary32 q)) (h : T (finite q)) (h' : mag q �
     whole = le-antisymm h' g
 
     side-zero : side q ≡ fin false 0 (pos 0)
-    side-zero = ap side (one-value q (fin (signBit q) 1 (pos 0)) (signBit q) unity f (one-fits (signBit q)) (subst (λ (k : ℕ). HasValue q (signBit q) k unity) whole (in-units q f h)) (one-value-is (signBit q))) ∙ at-one (signBit q)
+    side-zero =
+        ap side (one-value q (fin (signBit q) 1 (pos 0)) (signBit q) unity f (one-fits (signBit q))
+        (subst (λ (k : ℕ). HasValue q (signBit q) k unity) whole (in-units q f h)) (one-value-is (signBit q))) ∙ at-one (signBit q)
 
     zero-value : HasValue (side q) false (mag (side q)) unity
     unfolding mag
@@ -320,7 +357,13 @@ module _ (q : Float) (f : T (fits binary32 q)) (h : T (finite q)) (h' : mag q �
     side-none = ap mag side-zero
 
     root-at : Root unity M (mag (side q))
-    root-at = subst (λ (k : ℕ). Root unity M k) (sym side-none) (record { Z = 0; sum = all-of (M * M) ∙ ap (λ (k : ℕ). k * k) whole; low = lit≤ tt; high = lit≤ tt; some = inl refl })
+    root-at = subst (λ (k : ℕ). Root unity M k) (sym side-none) (record {
+      Z = 0;
+      sum = all-of (M * M) ∙ ap (λ (k : ℕ). k * k) whole;
+      low = lit≤ tt;
+      high = lit≤ tt;
+      some = inl refl;
+    })
       where
         all-of : (n : ℕ) → n + 0 ≡ n
         all-of n = omega arith

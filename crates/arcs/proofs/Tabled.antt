@@ -1,4 +1,5 @@
--- A table of angles written as a `match`: an arm that passes its computed test holds `arcTangent` and `lean`, and the last arm is the last place. Assumes nothing.
+-- A table of angles written as a `match`: an arm that passes its computed test holds `arcTangent` and `lean`, and the last arm is the
+-- last place. Assumes nothing.
 use Prim.Native.Nat.{ℕ, zero, suc, _+_, _*_, _≤_, _<_}
 use mathlib.Core.Path.{_≡_, sym, ap, _∙_, subst}
 use mathlib.Core.Bool.{Bool, _&&_}
@@ -30,8 +31,13 @@ pub held : {k i t b : ℕ} → k ≡ i → T (angled i t b) → T (ltb i 129) �
 unfolding angled
 held {k} {i} {t} {b} e p l =
     let h : t ≡ arcTangent i = eqb→eq t (arcTangent i) (and-l (eqb t (arcTangent i)) (eqb b (lean i)) p) in
-    let j : b ≡ lean i = eqb→eq b (lean i) (and-r (eqb t (arcTangent i)) (eqb b (lean i)) p) in
-    (h ∙ ap arcTangent (sym e), subst (λ (m : ℕ). m ≤ 843314857) (sym h) (row-size i (ltb→lt i 129 l) .2), j ∙ ap lean (sym e), subst (λ (m : ℕ). m ≤ 2147483648) (sym j) (lean-le i))
+    let j : b ≡ lean i = eqb→eq b (lean i) (and-r (eqb t (arcTangent i)) (eqb b (lean i)) p) in (
+      h ∙ ap arcTangent (sym e),
+      subst (λ (m : ℕ). m ≤ 843314857) (sym h) (row-size i (ltb→lt i 129 l) .2),
+      j
+          ∙ ap lean (sym e),
+      subst (λ (m : ℕ). m ≤ 2147483648) (sym j) (lean-le i),
+    )
 
 -- k is none of the first n places
 abbrev pub Beyond : ℕ → ℕ → Type 0

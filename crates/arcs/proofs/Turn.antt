@@ -1,4 +1,5 @@
--- atan2 of whole numbers: the computed angle of a vector lies between the wedge's two sides, E before and E past it, in units of 2 ^ -30. Assumes nothing.
+-- atan2 of whole numbers: the computed angle of a vector lies between the wedge's two sides, E before and E past it, in units of 2 ^ -30.
+-- Assumes nothing.
 use Prim.Native.Nat.{ℕ, _+_, _*_, _-_, _/_, _≤_, _<_}
 use mathlib.Core.Path.{_≡_, refl, sym, subst₂}
 use mathlib.Core.Logic.{_⊎_, inl, inr}
@@ -54,14 +55,16 @@ ge-left x y u p m q l d h = go (u * d)
     go : (k : ℕ) → (y * q + 0 * l) * k + (0 * m + x * p) * k ≤ (0 * p + x * m) * k + (y * l + 0 * q) * k
     go k = omega (arith, mul-le-mul-right k h)
 
-ahead-right : (x y u p m q l d : ℕ) → 0 < u → 0 < d → x * m + y * l < x * p + y * q → whole 0 ≺ x ÷ u ⊗ difference p m d ⊕ y ÷ u ⊗ difference q l d
+ahead-right : (x y u p m q l d : ℕ) → 0 < u → 0 < d → x * m + y * l < x * p + y * q
+    → whole 0 ≺ x ÷ u ⊗ difference p m d ⊕ y ÷ u ⊗ difference q l d
 ahead-right x y u p m q l d i j h = go (u * d) (mul-lt-mul-of-pos-right h (mul-pos i j))
   where
     go : (k : ℕ) → (x * m + y * l) * k < (x * p + y * q) * k
         → 0 * (k * k) + ((x * m + 0 * p) * k + (y * l + 0 * q) * k) * 1 < ((x * p + 0 * m) * k + (y * q + 0 * l) * k) * 1 + 0 * (k * k)
     go k g = omega arith
 
-ahead-left : (x y u p m q l d : ℕ) → 0 < u → 0 < d → x * p + y * l < x * m + y * q → whole 0 ≺ negative (x ÷ u) ⊗ difference p m d ⊕ y ÷ u ⊗ difference q l d
+ahead-left : (x y u p m q l d : ℕ) → 0 < u → 0 < d → x * p + y * l < x * m + y * q
+    → whole 0 ≺ negative (x ÷ u) ⊗ difference p m d ⊕ y ÷ u ⊗ difference q l d
 ahead-left x y u p m q l d i j h = go (u * d) (mul-lt-mul-of-pos-right h (mul-pos i j))
   where
     go : (k : ℕ) → (x * p + y * l) * k < (x * m + y * q) * k
@@ -89,12 +92,21 @@ module _ (E : ℕ) (E-low : 1024 ≤ E) (E-high : E ≤ 4096) (u : ℕ) (u-pos :
           let k = q .0 in
           subst₂ (λ (s c : Fraction). x ÷ u ⊗ s ≼ y ÷ u ⊗ c) (sym (sine-pos n E k (q .1))) (sym (cosine-pos n E k (q .1)))
           (le-right x y u (sp k) (sm k) (cp k) (cm k) D
-          (omega (arith, less (y * cm k + x * sp k) (y * cp k + x * sm k) (W .before (t - k) k (omega (arith, q .1, R .up, R .down)) (omega (arith, q .1, R .up, R .down)) (omega (arith, q .1, R .up, R .down))))))
+          (omega (
+            arith,
+            less (y * cm k + x * sp k) (y * cp k + x * sm k)
+                (W .before (t - k) k (omega (arith, q .1, R .up, R .down)) (omega (arith, q .1, R .up, R .down))
+                (omega (arith, q .1, R .up, R .down))),
+          )))
       | inr q ↦
           let k = q .0 in
           subst₂ (λ (s c : Fraction). x ÷ u ⊗ s ≼ y ÷ u ⊗ c) (sym (sine-neg n E k (q .1))) (sym (cosine-neg n E k (q .1)))
           (le-right x y u (sm k) (sp k) (cp k) (cm k) D
-          (omega (arith, less (y * cm k + x * sm k) (y * cp k + x * sp k) (W .beyond (k + t) k (omega (arith, q .1, R .up, R .down)) (omega (arith, q .1, R .up, R .down)) refl))))
+          (omega (
+            arith,
+            less (y * cm k + x * sm k) (y * cp k + x * sp k)
+                (W .beyond (k + t) k (omega (arith, q .1, R .up, R .down)) (omega (arith, q .1, R .up, R .down)) refl),
+          )))
     ]
 
     right-high : Right v x y t → y ÷ u ⊗ cosineAt (n + E) 0 ≼ x ÷ u ⊗ sineAt (n + E) 0
@@ -102,13 +114,26 @@ module _ (E : ℕ) (E-low : 1024 ≤ E) (E-high : E ≤ 4096) (u : ℕ) (u-pos :
         let k = n + E in
         subst₂ (λ (s c : Fraction). y ÷ u ⊗ c ≼ x ÷ u ⊗ s) (sym (sine-pos k 0 k (add-zero k))) (sym (cosine-pos k 0 k (add-zero k)))
         (ge-right x y u (sp k) (sm k) (cp k) (cm k) D
-        (omega (arith, less (y * cp k + x * sm k) (y * cm k + x * sp k) (W .past (k - t) k (omega (arith, R .up, R .down)) (omega (arith, R .up, R .down)) (omega (arith, R .up, R .down))))))
+        (omega (
+          arith,
+          less (y * cp k + x * sm k) (y * cm k + x * sp k)
+              (W .past (k - t) k (omega (arith, R .up, R .down)) (omega (arith, R .up, R .down)) (omega (arith, R .up, R .down))),
+        )))
 
     right-ahead : Right v x y t → whole 0 ≺ x ÷ u ⊗ cosineAt n 0 ⊕ y ÷ u ⊗ sineAt n 0
     right-ahead W =
-        subst₂ (λ (s c : Fraction). whole 0 ≺ x ÷ u ⊗ c ⊕ y ÷ u ⊗ s) (sym (sine-pos n 0 n (add-zero n))) (sym (cosine-pos n 0 n (add-zero n)))
+        subst₂ (λ (s c : Fraction). whole 0 ≺ x ÷ u ⊗ c ⊕ y ÷ u ⊗ s) (sym (sine-pos n 0 n (add-zero n)))
+        (sym (cosine-pos n 0 n (add-zero n)))
         (ahead-right x y u (cp n) (cm n) (sp n) (sm n) D u-pos D-pos
-        (omega (arith, less (y * sm n + x * cm n) (y * sp n + x * cp n) (near (sm n) (sp n) (cp n) (cm n) (elim (here-or-on n t) [ inl g ↦ W .off (t - n) n (omega (arith, R .down)) (omega arith) | inr g ↦ W .on (n - t) n (omega (arith, R .up)) (omega arith) ])))))
+        (omega (
+          arith,
+          less (y * sm n + x * cm n) (y * sp n + x * cp n)
+              (near (sm n) (sp n) (cp n) (cm n)
+              (elim (here-or-on n t) [
+                | inl g ↦ W .off (t - n) n (omega (arith, R .down)) (omega arith)
+                | inr g ↦ W .on (n - t) n (omega (arith, R .up)) (omega arith)
+              ])),
+        )))
       where
         near : (s s' c c' : ℕ) → Apart v (x * c' + y * s) (x * c + y * s') → Less v y x s s' c c'
         near s s' c c' h = omega arith
@@ -122,7 +147,12 @@ module _ (E : ℕ) (E-low : 1024 ≤ E) (E-high : E ≤ 4096) (u : ℕ) (u-pos :
           let k = q .0 in
           subst₂ (λ (s c : Fraction). negative (x ÷ u) ⊗ s ≼ y ÷ u ⊗ c) (sym (sine-pos n E k (q .1))) (sym (cosine-pos n E k (q .1)))
           (le-left x y u (sp k) (sm k) (cp k) (cm k) D
-          (omega (arith, less (y * cm k + x * sm k) (y * cp k + x * sp k) (W .before (t - k) k (omega (arith, q .1, R .up, R .down)) (omega (arith, q .1, R .up, R .down)) (omega (arith, q .1, R .up, R .down))))))
+          (omega (
+            arith,
+            less (y * cm k + x * sm k) (y * cp k + x * sp k)
+                (W .before (t - k) k (omega (arith, q .1, R .up, R .down)) (omega (arith, q .1, R .up, R .down))
+                (omega (arith, q .1, R .up, R .down))),
+          )))
       | inr q ↦ absurd (no (q .0) (q .1) (W .least) (R .down))
     ]
       where
@@ -132,15 +162,29 @@ module _ (E : ℕ) (E-low : 1024 ≤ E) (E-high : E ≤ 4096) (u : ℕ) (u-pos :
     left-high : Left v x y t → y ÷ u ⊗ cosineAt (n + E) 0 ≼ negative (x ÷ u) ⊗ sineAt (n + E) 0
     left-high W =
         let k = n + E in
-        subst₂ (λ (s c : Fraction). y ÷ u ⊗ c ≼ negative (x ÷ u) ⊗ s) (sym (sine-pos k 0 k (add-zero k))) (sym (cosine-pos k 0 k (add-zero k)))
+        subst₂ (λ (s c : Fraction). y ÷ u ⊗ c ≼ negative (x ÷ u) ⊗ s) (sym (sine-pos k 0 k (add-zero k)))
+        (sym (cosine-pos k 0 k (add-zero k)))
         (ge-left x y u (sp k) (sm k) (cp k) (cm k) D
-        (omega (arith, less (y * cp k + x * sp k) (y * cm k + x * sm k) (W .past (k - t) k (omega (arith, R .up, R .down)) (omega (arith, R .up, R .down)) (omega (arith, R .up, R .down))))))
+        (omega (
+          arith,
+          less (y * cp k + x * sp k) (y * cm k + x * sm k)
+              (W .past (k - t) k (omega (arith, R .up, R .down)) (omega (arith, R .up, R .down)) (omega (arith, R .up, R .down))),
+        )))
 
     left-ahead : Left v x y t → whole 0 ≺ negative (x ÷ u) ⊗ cosineAt n 0 ⊕ y ÷ u ⊗ sineAt n 0
     left-ahead W =
-        subst₂ (λ (s c : Fraction). whole 0 ≺ negative (x ÷ u) ⊗ c ⊕ y ÷ u ⊗ s) (sym (sine-pos n 0 n (add-zero n))) (sym (cosine-pos n 0 n (add-zero n)))
+        subst₂ (λ (s c : Fraction). whole 0 ≺ negative (x ÷ u) ⊗ c ⊕ y ÷ u ⊗ s) (sym (sine-pos n 0 n (add-zero n)))
+        (sym (cosine-pos n 0 n (add-zero n)))
         (ahead-left x y u (cp n) (cm n) (sp n) (sm n) D u-pos D-pos
-        (omega (arith, less (y * sm n + x * cp n) (y * sp n + x * cm n) (near (sm n) (sp n) (cp n) (cm n) (elim (here-or-on n t) [ inl g ↦ W .off (t - n) n (omega (arith, R .down)) (omega arith) | inr g ↦ W .on (n - t) n (omega (arith, R .up)) (omega arith) ])))))
+        (omega (
+          arith,
+          less (y * sm n + x * cp n) (y * sp n + x * cm n)
+              (near (sm n) (sp n) (cp n) (cm n)
+              (elim (here-or-on n t) [
+                | inl g ↦ W .off (t - n) n (omega (arith, R .down)) (omega arith)
+                | inr g ↦ W .on (n - t) n (omega (arith, R .up)) (omega arith)
+              ])),
+        )))
       where
         near : (s s' c c' : ℕ) → Apart v (x * c + y * s) (x * c' + y * s') → Less v y x s s' c' c
         near s s' c c' h = omega arith
@@ -151,8 +195,10 @@ module _ (E : ℕ) (E-low : 1024 ≤ E) (E-high : E ≤ 4096) (u : ℕ) (u-pos :
   -- (x, y) with y not negative
   pub upper : (left? : Bool) → Fine E (y ÷ u) (signed left? (x ÷ u)) (256 * angleOf left? x y)
   unfolding angle
-  upper false = let t = wide (ltb x y) false (ratio (smaller x y) (larger x y)) in right-fine t (256 * ((t + 128) / 256)) (rounded t) (right x y v-pos)
-  upper true = let t = wide (ltb x y) true (ratio (smaller x y) (larger x y)) in left-fine t (256 * ((t + 128) / 256)) (rounded t) (left x y v-pos)
+  upper false = let t = wide (ltb x y) false (ratio (smaller x y) (larger x y)) in
+      right-fine t (256 * ((t + 128) / 256)) (rounded t) (right x y v-pos)
+  upper true = let t = wide (ltb x y) true (ratio (smaller x y) (larger x y)) in
+      left-fine t (256 * ((t + 128) / 256)) (rounded t) (left x y v-pos)
 
 -- the angle is at most P
 pub angle-le : (left? : Bool) (x y : ℕ) → 0 < larger x y → angleOf left? x y ≤ 13176795

@@ -1,7 +1,7 @@
 -- What the entries answer: document 01's refusals 1 and 2, else the number.
 use Prim.Native.Nat.{ℕ}
 use mathlib.Core.Bool.{_&&_}
-use mathlib.Core.List.{List, [], _∷_}
+use mathlib.Core.List.{[], _∷_}
 use lib.Ieee.{Float}
 use Rattle.numbers.specs.Door.{finite, permits, unless, firstOf}
 use Rattle.numbers.specs.Limits.{arcCosineArgument, atan2Argument}

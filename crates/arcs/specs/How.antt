@@ -1,4 +1,7 @@
--- How ours computes arc cosine and atan2, by one division of f32 and whole numbers, arc cosine by a root before them: nothing of document 01. Arc cosine of what is not permitted, and atan2 of what is not finite, is +0.
+-- How ours computes arc cosine and atan2, by one division of f32 and whole numbers, arc cosine by a root before them: nothing of
+-- document 01. Arc cosine of what is not permitted, and atan2 of what is not finite, is +0.
+-- Units: the ratio of two sides is a whole number w of 2 ^ -25, so that 2 ^ 25 is 1; an angle is one of 2 ^ -30 radians, and at the
+-- end one of 2 ^ -22, of which P is 13176795.
 use Prim.Native.Nat.{ℕ, _+_, _-_, _*_, _/_, _%_, _^_, _≤_, _<_}
 use mathlib.Core.Bool.{Bool, false, cond, _&&_}
 use lib.Dec.{ltb}
@@ -12,24 +15,27 @@ use Rattle.roots.specs.Root.{squareRoot}
 use Rattle.arc_rows.specs.ArcTangent.{arcTangent}
 use Rattle.arcs.specs.Wedges.{signBit}
 
--- ---- the angle of (2 ^ 25, w) in units of 2 ^ -30, for w up to 2 ^ 25: that of (128, k), and two terms of the arc tangent's series there
-abbrev pub place : ℕ → ℕ
-place w = w / 262144
+-- ---- the angle of (2 ^ 25, w), for w up to 2 ^ 25: that of (128, k), the row's, and two terms of the arc tangent's series there
+-- the row k is 2 ^ 25 / 128 wide
+abbrev pub tableRow : ℕ → ℕ
+tableRow w = w / 2 ^ 18
 
--- 2 ^ 45 over 128 ² + k ²
+-- how fast the angle grows at the row: 2 ^ 31 over 1 + (k / 128) ²
 unfoldable pub lean : ℕ → ℕ
-lean k = 35184372088832 / (16384 + k * k)
+lean k = 2 ^ 45 / (128 * 128 + k * k)
 
+-- the first term: what w has past the row, times how fast the angle grows; 2 ^ -25 times 2 ^ -31 is 2 ^ -30 over 2 ^ 26
 abbrev pub straight : ℕ → ℕ
-straight w = w % 262144 * lean (place w) / 67108864
+straight w = w % 2 ^ 18 * lean (tableRow w) / 2 ^ 26
 
+-- the second: the square of the first times k / 128; 2 ^ 37 is 2 ^ 30 times 128
 abbrev pub bend : ℕ → ℕ
-bend w = straight w * straight w * place w / 137438953472
+bend w = straight w * straight w * tableRow w / 2 ^ 37
 
 unfoldable pub slope : ℕ → ℕ
-slope w = arcTangent (place w) + (straight w - bend w)
+slope w = arcTangent (tableRow w) + (straight w - bend w)
 
--- a quarter and a half turn
+-- a quarter and a half turn, in units of 2 ^ -30
 abbrev pub quarter : ℕ
 quarter = 1686629713
 
@@ -43,11 +49,12 @@ sharp steep w = cond steep (quarter - slope w) (slope w)
 unfoldable pub wide : Bool → Bool → ℕ → ℕ
 wide steep left w = cond left (half - sharp steep w) (sharp steep w)
 
--- in units of 2 ^ -22
+-- from units of 2 ^ -30 to the nearest of 2 ^ -22
 unfoldable pub angle : Bool → Bool → ℕ → ℕ
 angle steep left w = (wide steep left w + 128) / 256
 
--- ---- the angle of (x, y), or of (-x, y): the smaller side over the larger as an f32 has it, with 1 before it, so that 23 digits are left; in units of 2 ^ -25
+-- ---- the angle of (x, y), or of (-x, y): the smaller side over the larger as an f32 has it, with 1 before it, so that 23 digits are
+-- left; 2 ^ 124 of the f32's units are 2 ^ -25
 abbrev pub smaller : ℕ → ℕ → ℕ
 smaller x y = cond (ltb x y) x y
 
@@ -68,25 +75,26 @@ abbrev pub angleOf : Bool → ℕ → ℕ → ℕ
 angleOf left x y = angle (ltb x y) left (ratio (smaller x y) (larger x y))
 
 -- a * 2 ^ -22 as an f32, negative where below is true: 2 ^ -22 is 2 ^ 127 units
-unfoldable pub turned : Bool → ℕ → Float
-turned below a = units binary32 below a 127
+unfoldable pub inRadians : Bool → ℕ → Float
+inRadians below a = units binary32 below a 127
 
 -- ---- atan2
 unfoldable pub finiteAtan2 : Float → Float → Float
-finiteAtan2 y x = turned (signBit y) (angleOf (signBit x) (mag x) (mag y))
+finiteAtan2 y x = inRadians (signBit y) (angleOf (signBit x) (mag x) (mag y))
 
 unfoldable pub atan2 : Float → Float → Float
-atan2 y x = choose (finite y && finite x) (finiteAtan2 y x) (turned false 0)
+atan2 y x = choose (finite y && finite x) (finiteAtan2 y x) (inRadians false 0)
 
 -- ---- arc cosine: the angle of (q, root of 1 - q²), the root's number by two sums and a product
-abbrev pub unit : Float
-unit = ofBits binary32 1065353216
+-- the f32 1, by its bits
+abbrev pub floatOne : Float
+floatOne = ofBits binary32 1065353216
 
 unfoldable pub side : Float → Float
-side q = squareRoot (mul binary32 (sub binary32 unit q) (add binary32 unit q))
+side q = squareRoot (mul binary32 (sub binary32 floatOne q) (add binary32 floatOne q))
 
 unfoldable pub insideArcCosine : Float → Float
 insideArcCosine q = finiteAtan2 (side q) q
 
 unfoldable pub arcCosine : Float → Float
-arcCosine q = choose (permits arcCosineArgument q) (insideArcCosine q) (turned false 0)
+arcCosine q = choose (permits arcCosineArgument q) (insideArcCosine q) (inRadians false 0)

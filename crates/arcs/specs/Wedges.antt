@@ -1,5 +1,5 @@
 -- Document 01, "Numbers with bounds": the rules of arc cosine and atan2. Each is stated for any e; document 01's is 2 ^ -18.
-use Prim.Native.Nat.{ℕ, _^_}
+use Prim.Native.Nat.{_^_}
 use mathlib.Core.Path.{_≡_}
 use mathlib.Core.Bool.{Bool, true, false}
 use lib.Dec.{T}

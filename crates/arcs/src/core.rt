@@ -44,7 +44,8 @@ pub(crate) fn inside_arc_cosine(q: f32) -> f32
     finite_atan2(roots::core::square_root((1.0 - q) * (1.0 + q)), q)
 }
 
-// Of two zeros it is y's zero, or P with y's sign where x is -0. P is 13176795 units of 2^-22.
+// Of two zeros it is y's zero, or P with y's sign where x is -0. P is 13176795 units of 2^-22; the
+// sign bit is 2^31.
 pub(crate) fn finite_atan2(y: f32, x: f32) -> f32
     requires { ⌜ T (finite y && finite x) ⌝ }
     ensures { λ r. ⌜ r ≡ finiteAtan2 y x ⌝ }

@@ -1,10 +1,12 @@
--- Whole bounds through f32 operations: what lies from -n to p keeps whole bounds through a sum, a difference, a product, a quotient, a square, a root, a
+-- Whole bounds through f32 operations: what lies from -n to p keeps whole bounds through a sum, a difference, a product, a quotient, a
+-- square, a root, a
 -- magnitude and a sign flip.
 use mathlib.Core.Path.{_≡_, refl, sym, ap, _∙_, subst}
 use mathlib.Core.Logic.{_⊎_, inl, inr}
 use mathlib.Core.Bool.{true, false}
 use Prim.Native.Nat.{ℕ, zero, suc, _+_, _-_, _*_, _^_, _≤_, _<_, zero-le}
-use native.Mathlib.Nat.{le-trans, le-refl, le-of-eq, lt-of-le-of-lt, lt-of-lt-of-le, mul-assoc, mul-left-comm, mul-le-mul, mul-le-mul-right, mul-lt-mul-of-pos-right, mul-pos}
+use native.Mathlib.Nat.{le-trans, le-refl, le-of-eq, lt-of-le-of-lt, lt-of-lt-of-le, mul-assoc, mul-left-comm, mul-le-mul, mul-le-mul-right}
+use native.Mathlib.Nat.{mul-lt-mul-of-pos-right, mul-pos}
 use native.Mathlib.Omega.{arith}
 use lib.Dec.{T, lit≤}
 use lib.Ieee.{Float, nan, inf, fin, binary32, down, add, sub, mul, div, neg, le, fits}
@@ -95,7 +97,8 @@ both-parts {k} {x} b = together (hi x) (lo x) (k * unity) (one-side binary32 x (
 
 -- ---- products and quotients
 pub result-between : (k a : ℕ) (x : Float) → T (fits binary32 x) → a ≤ k * unity → Result binary32 x a → Between k k x
-result-between k a x F h r = made k k x (r .p) (r .n) F (r .part) (second (r .p) (r .n) a (k * unity) (r .most) h) (first (r .p) (r .n) a (k * unity) (r .most) h)
+result-between k a x F h r =
+    made k k x (r .p) (r .n) F (r .part) (second (r .p) (r .n) a (k * unity) (r .most) h) (first (r .p) (r .n) a (k * unity) (r .most) h)
   where
     first : (i j m u : ℕ) → i + j ≤ m → m ≤ u → i ≤ u
     first i j m u h k = omega arith
@@ -110,27 +113,30 @@ module _ {k j : ℕ} {x y : Float} (a : Between k k x) (b : Between j j y) (K : 
       exact : rounded (k * j * unity) unity ≡ k * j * unity
       exact = grid-exact binary32 (k * j) 149 K (small (k * j) K)
 
-      turned : (k j u : ℕ) → k * u * (j * u) ≡ k * j * u * u
-      turned k j u = simp (mul-assoc, mul-left-comm)
+      regrouped : (k j u : ℕ) → k * u * (j * u) ≡ k * j * u * u
+      regrouped k j u = simp (mul-assoc, mul-left-comm)
 
       by-sign : Signed binary32 y (hi y) (lo y) → Between (k * j) (k * j) (mul binary32 x y)
       by-sign (plus v e) =
           result-between (k * j) (k * j * unity) (mul binary32 x y) (mul-fits binary32 x y) (le-refl (k * j * unity))
-          (mul-most binary32 x y false (hi x) (lo x) (hi y) (k * unity) (j * unity) (k * j * unity) (a .ok) v (both-parts a) (b .high) exact (small (k * j) K) (le-of-eq (turned k j unity)))
+          (mul-most binary32 x y false (hi x) (lo x) (hi y) (k * unity) (j * unity) (k * j * unity) (a .ok) v (both-parts a) (b .high) exact
+          (small (k * j) K) (le-of-eq (regrouped k j unity)))
       by-sign (minus v e) =
           result-between (k * j) (k * j * unity) (mul binary32 x y) (mul-fits binary32 x y) (le-refl (k * j * unity))
-          (mul-most binary32 x y true (hi x) (lo x) (lo y) (k * unity) (j * unity) (k * j * unity) (a .ok) v (both-parts a) (b .low) exact (small (k * j) K) (le-of-eq (turned k j unity)))
+          (mul-most binary32 x y true (hi x) (lo x) (lo y) (k * unity) (j * unity) (k * j * unity) (a .ok) v (both-parts a) (b .low) exact
+          (small (k * j) K) (le-of-eq (regrouped k j unity)))
 
 -- k times d, divided by d
-module _ (k d : ℕ) {x : Float} (y : Float) (a : Between (k * d) (k * d) x) (v : HasValue y false (d * unity) unity) (D : 0 < d) (K : k < 2 ^ 24) where
+module _ (k d : ℕ) {x : Float} (y : Float) (a : Between (k * d) (k * d) x) (v : HasValue y false (d * unity) unity) (D : 0 < d)
+    (K : k < 2 ^ 24) where
   pub share-between : Between k k (div binary32 x y)
   share-between =
       result-between k (k * unity) (div binary32 x y) (div-fits binary32 x y) (le-refl (k * unity))
       (div-most binary32 x y false (hi x) (lo x) (d * unity) (k * d * unity) (k * unity) (a .ok) v (mul-pos D unity-pos) (both-parts a)
-      (grid-exact binary32 k 149 K (small k K)) (small k K) (le-of-eq (turned k d unity)))
+      (grid-exact binary32 k 149 K (small k K)) (small k K) (le-of-eq (regrouped k d unity)))
     where
-      turned : (k d u : ℕ) → k * d * u * u ≡ k * u * (d * u)
-      turned k d u = simp (mul-assoc, mul-left-comm)
+      regrouped : (k d u : ℕ) → k * d * u * u ≡ k * u * (d * u)
+      regrouped k d u = simp (mul-assoc, mul-left-comm)
 
 -- ---- a square is not negative
 module _ {k : ℕ} {x : Float} (b : Between k k x) (K : k * k < 2 ^ 24) where
@@ -138,13 +144,16 @@ module _ {k : ℕ} {x : Float} (b : Between k k x) (K : k * k < 2 ^ 24) where
   square-between =
       let w = hi x + lo x in
       let W : w * w ≤ k * unity * (k * unity) = mul-le-mul (both-parts b) (both-parts b) in
-      let L : w * w * unity ≤ k * k * unity * (unity * unity) = le-trans (mul-le-mul-right unity W) (le-of-eq (turned k unity)) in
-      let G : rounded (w * w) (unity * unity) ≤ k * k * unity = le-trans (grid-mono binary32 (w * w) (unity * unity) (k * k * unity) unity (mul-pos unity-pos unity-pos) unity-pos L) (le-of-eq (grid-exact binary32 (k * k) 149 K (small (k * k) K))) in
+      let L : w * w * unity ≤ k * k * unity * (unity * unity) = le-trans (mul-le-mul-right unity W) (le-of-eq (regrouped k unity)) in
+      let G : rounded (w * w) (unity * unity) ≤ k * k * unity =
+      le-trans (grid-mono binary32 (w * w) (unity * unity) (k * k * unity) unity (mul-pos unity-pos unity-pos) unity-pos L)
+      (le-of-eq (grid-exact binary32 (k * k) 149 K (small (k * k) K))) in
       let v = sq-value binary32 x (hi x) (lo x) (b .ok) (lt-of-le-of-lt G (small (k * k) K)) in
-      made 0 (k * k) (mul binary32 x x) (rounded (w * w) (unity * unity)) 0 (mul-fits binary32 x x) (plus-part binary32 (mul binary32 x x) (rounded (w * w) (unity * unity)) v) zero-le G
+      made 0 (k * k) (mul binary32 x x) (rounded (w * w) (unity * unity)) 0 (mul-fits binary32 x x)
+      (plus-part binary32 (mul binary32 x x) (rounded (w * w) (unity * unity)) v) zero-le G
     where
-      turned : (k u : ℕ) → k * u * (k * u) * u ≡ k * k * u * (u * u)
-      turned k u = simp (mul-assoc, mul-left-comm)
+      regrouped : (k u : ℕ) → k * u * (k * u) * u ≡ k * k * u * (u * u)
+      regrouped k u = simp (mul-assoc, mul-left-comm)
 
 -- ---- without its sign, and with the other
 magnitude-fits : (x : Float) → T (fits binary32 x) → T (fits binary32 (magnitude x))
@@ -168,25 +177,32 @@ magnitude-part (fin true m e) p n h = let z : p ≡ 0 = h .1 in (h .0 ∙ ap (λ
     left p n z = omega arith
 
 pub magnitude-between : {k : ℕ} {x : Float} → Between k k x → Between 0 k (magnitude x)
-magnitude-between {k} {x} b = made 0 k (magnitude x) (hi x + lo x) 0 (magnitude-fits x (b .held)) (magnitude-part x (hi x) (lo x) (b .ok)) zero-le (both-parts b)
+magnitude-between {k} {x} b =
+    made 0 k (magnitude x) (hi x + lo x) 0 (magnitude-fits x (b .held)) (magnitude-part x (hi x) (lo x) (b .ok)) zero-le (both-parts b)
 
 pub flip-between : {n p : ℕ} {x : Float} → Between n p x → Between p n (neg x)
-flip-between {n} {p} {x} b = made p n (neg x) (lo x) (hi x) (neg-fits binary32 x (b .held)) (neg-part binary32 x (hi x) (lo x) (b .ok)) (b .high) (b .low)
+flip-between {n} {p} {x} b =
+    made p n (neg x) (lo x) (hi x) (neg-fits binary32 x (b .held)) (neg-part binary32 x (hi x) (lo x) (b .ok)) (b .high) (b .low)
 
 -- ---- a root: z is the f32 b, and a is at most its square
-module _ {a : ℕ} {x : Float} (h : Between 0 a x) (b : ℕ) (z : Float) (Z : T (fits binary32 z)) (is : mag z ≡ b * unity) (enough : a ≤ b * b) where
+module _ {a : ℕ} {x : Float} (h : Between 0 a x) (b : ℕ) (z : Float) (Z : T (fits binary32 z)) (is : mag z ≡ b * unity)
+    (enough : a ≤ b * b) where
   pub root-between : Between 0 b (squareRoot x)
   root-between =
       let t : T (finite x) = subst T (sym (finite-is x)) (part-finite binary32 x (hi x) (lo x) (h .ok)) in
       let l : lo x ≡ 0 = none (lo x) unity (h .low) in
       let m : mag x ≤ a * unity = le-trans (le-of-eq (mag-parts x)) (alone (hi x) (lo x) (a * unity) l (h .high)) in
-      let s : mag x * unity ≤ b * unity * (b * unity) = le-trans (mul-le-mul-right unity m) (le-trans (mul-le-mul-right unity (mul-le-mul-right unity enough)) (le-of-eq (turned b unity))) in
+      let s : mag x * unity ≤ b * unity * (b * unity) =
+      le-trans (mul-le-mul-right unity m)
+      (le-trans (mul-le-mul-right unity (mul-le-mul-right unity enough)) (le-of-eq (regrouped b unity))) in
       let r : mag (squareRoot x) ≤ mag z = root-most x z (h .held) l Z (subst (λ (w : ℕ). mag x * unity ≤ w * w) (sym is) s) in
       record {
         held = root-fits x (h .held);
         ok = root-units x (h .held) t;
         low = le-trans (le-of-eq (root-lo x (h .held) l)) zero-le;
-        high = le-trans (part (hi (squareRoot x)) (lo (squareRoot x)) (mag (squareRoot x)) (mag-parts (squareRoot x))) (le-trans r (le-of-eq is));
+        high =
+            le-trans (part (hi (squareRoot x)) (lo (squareRoot x)) (mag (squareRoot x)) (mag-parts (squareRoot x)))
+            (le-trans r (le-of-eq is));
       }
     where
       none : (i u : ℕ) → i ≤ 0 * u → i ≡ 0
@@ -195,8 +211,8 @@ module _ {a : ℕ} {x : Float} (h : Between 0 a x) (b : ℕ) (z : Float) (Z : T 
       alone : (i j k : ℕ) → j ≡ 0 → i ≤ k → i + j ≤ k
       alone i j k e h = omega arith
 
-      turned : (b u : ℕ) → b * b * u * u ≡ b * u * (b * u)
-      turned b u = simp (mul-assoc, mul-left-comm)
+      regrouped : (b u : ℕ) → b * b * u * u ≡ b * u * (b * u)
+      regrouped b u = simp (mul-assoc, mul-left-comm)
 
       part : (i j m : ℕ) → m ≡ i + j → i ≤ m
       part i j m e = omega arith
@@ -207,7 +223,12 @@ module _ (l : Limit) (p n q : ℕ) (e : Ends l p n q 0) (N Q : ℕ) (below : n �
   through-the-door F h =
       let w = permitted l p n q 0 e x F h in
       let s = one-side binary32 x (hi x) (lo x) (w .single .ok) in
-      record { held = F; ok = w .single .ok; low = le-trans (lower (hi x) (lo x) s (w .from)) below; high = le-trans (upper (hi x) (lo x) s (w .to)) above }
+      record {
+        held = F;
+        ok = w .single .ok;
+        low = le-trans (lower (hi x) (lo x) s (w .from)) below;
+        high = le-trans (upper (hi x) (lo x) s (w .to)) above;
+      }
     where
       lower : (i j : ℕ) → (i ≡ 0) ⊎ (j ≡ 0) → p + j ≤ n + i → j ≤ n
       lower i j (inl z) h = omega arith

@@ -1,5 +1,5 @@
--- From document 01's table to whole bounds, row by row, and back; a permitted point; one leg of six that all pass.
-use mathlib.Core.Bool.{Bool, _&&_}
+-- From document 01's table to whole bounds, row by row, and back; a permitted point.
+use mathlib.Core.Bool.{_&&_}
 use Prim.Native.Nat.{ℕ, _*_, _^_, _≤_}
 use lib.Dec.{T, lit≤}
 use lib.Ieee.{Float, binary32, fits}
@@ -8,14 +8,14 @@ use Rattle.numbers.specs.Door.{permits}
 use Rattle.numbers.specs.Limits as rows
 use Rattle.units.specs.Units.{unity}
 use Rattle.units.proofs.Table as table
-use Rattle.legs.specs.Legs.{Leg, leftFront, rightFront, leftMiddle, rightMiddle, leftRear, rightRear, every, permittedPoint}
+use Rattle.legs.specs.Legs.{permittedPoint}
 use Rattle.legs.specs.declared.Point.{Point}
 use Rattle.bounds.specs.Between.{Between, HeldPoint, PointBounds}
 use Rattle.bounds.proofs.Between.{wider, through-the-door, in-the-table}
 
 -- ---- what is permitted, in whole metres and radians
-pub at-foot : (x : Float) → T (fits binary32 x) → T (permits rows.foot x) → Between 4 4 x
-at-foot = through-the-door rows.foot 0 (4 * unity) (4 * unity) table.foot-ends 4 4 (lit≤ tt) (lit≤ tt)
+pub at-foot : (x : Float) → T (fits binary32 x) → T (permits rows.footLimit x) → Between 4 4 x
+at-foot = through-the-door rows.footLimit 0 (4 * unity) (4 * unity) table.foot-ends 4 4 (lit≤ tt) (lit≤ tt)
 
 pub at-rotation : (x : Float) → T (fits binary32 x) → T (permits rows.rotation x) → Between 4 4 x
 at-rotation = through-the-door rows.rotation 0 (4 * unity) (4 * unity) table.rotation-ends 4 4 (lit≤ tt) (lit≤ tt)
@@ -32,9 +32,6 @@ at-length = through-the-door rows.legLength (2 ^ 141) 0 unity table.leg-length-e
 pub at-motor : (x : Float) → T (fits binary32 x) → T (permits rows.motorAngle x) → Between 0 8 x
 at-motor = through-the-door rows.motorAngle 0 0 (8 * unity) table.motor-angle-ends 0 8 (lit≤ tt) (lit≤ tt)
 
-pub at-direction : (x : Float) → T (fits binary32 x) → T (permits rows.direction x) → Between 1 1 x
-at-direction = through-the-door rows.direction 0 unity unity table.direction-ends 1 1 (lit≤ tt) (lit≤ tt)
-
 pub at-max-move : (x : Float) → T (fits binary32 x) → T (permits rows.maxMove x) → Between 0 1 x
 at-max-move = through-the-door rows.maxMove 0 0 unity table.max-move-ends 0 1 (lit≤ tt) (lit≤ tt)
 
@@ -48,34 +45,16 @@ atan2-row b n q = in-the-table rows.atan2Argument (128 * unity) (128 * unity) ta
 pub root-row : {Q : ℕ} {x : Float} → Between 0 Q x → Q ≤ 65536 → T (permits rows.rootArgument x)
 root-row b q = in-the-table rows.rootArgument 0 (65536 * unity) table.root-argument-ends {N = 0} (lit≤ tt) (lit≤ tt) (wider b (lit≤ tt) q)
 
--- ---- a point, and a leg
-pub point-bounds : (p : Point) → HeldPoint p → T (permittedPoint rows.foot p) → PointBounds 4 p
+-- ---- a point
+pub point-bounds : (p : Point) → HeldPoint p → T (permittedPoint rows.footLimit p) → PointBounds 4 p
 unfolding permittedPoint
 point-bounds p H h =
-    let x = permits rows.foot (p .x) in
-    let y = permits rows.foot (p .y) in
-    let z = permits rows.foot (p .z) in
+    let x = permits rows.footLimit (p .x) in
+    let y = permits rows.footLimit (p .y) in
+    let z = permits rows.footLimit (p .z) in
     let xy = and-l (x && y) z h in
-    record { x = at-foot (p .x) (H .x) (and-l x y xy); y = at-foot (p .y) (H .y) (and-r x y xy); z = at-foot (p .z) (H .z) (and-r (x && y) z h) }
-
-pub each : (t : Leg → Bool) → T (every t) → (l : Leg) → T (t l)
-each t h l =
-    let a = t leftFront in
-    let b = t rightFront in
-    let c = t leftMiddle in
-    let d = t rightMiddle in
-    let e = t leftRear in
-    let f = t rightRear in
-    let abcde = and-l (a && b && c && d && e) f h in
-    let abcd = and-l (a && b && c && d) e abcde in
-    let abc = and-l (a && b && c) d abcd in
-    let ab = and-l (a && b) c abc in
-    pick (and-l a b ab) (and-r a b ab) (and-r (a && b) c abc) (and-r (a && b && c) d abcd) (and-r (a && b && c && d) e abcde) (and-r (a && b && c && d && e) f h) l
-  where
-    pick : T (t leftFront) → T (t rightFront) → T (t leftMiddle) → T (t rightMiddle) → T (t leftRear) → T (t rightRear) → (l : Leg) → T (t l)
-    pick a b c d e f leftFront = a
-    pick a b c d e f rightFront = b
-    pick a b c d e f leftMiddle = c
-    pick a b c d e f rightMiddle = d
-    pick a b c d e f leftRear = e
-    pick a b c d e f rightRear = f
+    record {
+      x = at-foot (p .x) (H .x) (and-l x y xy);
+      y = at-foot (p .y) (H .y) (and-r x y xy);
+      z = at-foot (p .z) (H .z) (and-r (x && y) z h);
+    }

@@ -1,16 +1,19 @@
 -- Document 01, "Cases to prove (p1 to p12)": one list, one statement. Lengths are metres.
 use mathlib.Core.Path.{_≡_}
+use mathlib.Core.Bool.{true}
 use mathlib.Core.List.{List, [], _∷_}
 use Prim.Native.Nat.{ℕ, _^_}
 use lib.Ieee.{Float, nan}
-use Rattle.numbers.specs.Told.{given, refused}
-use Rattle.numbers.specs.Limits.{over, minus}
-use Rattle.legs.specs.Legs.{feet, coordinates}
+use Rattle.numbers.specs.Told.{Told, given, refused}
+use Rattle.numbers.specs.Limits.{over, minus, footLimit}
+use Rattle.legs.specs.Legs.{feet, coordinates, permittedFeet}
+use Rattle.legs.specs.Flags.{lrlTripod}
 use Rattle.legs.specs.Answers.{givenFeet}
 use Rattle.legs.specs.Merge.{mergeTold}
 use Rattle.rows.specs.Rows.{updateTold}
 use Rattle.moves.specs.Entries.{moveTold}
 use Rattle.walks.specs.Walk.{Walk}
+use Rattle.walks.specs.Answers.{walkRefusal, Counts}
 use Rattle.steps.specs.Entries.{timedProgressTold, evenProgressTold}
 use Rattle.legs.specs.declared.Point.{Point}
 use Rattle.legs.specs.declared.Feet.{Feet}
@@ -35,30 +38,50 @@ eighth = at (over 1 8) zero
 abbrev quarter : Point
 quarter = at (over 1 4) zero
 
+abbrev slant : Point
+slant = at (over 3 8) (over 1 2)
+
 abbrev nanoseconds : ℕ → Time
 nanoseconds n = record { seconds = 0; nanoseconds = n }
+
+-- a single step's answer: the new point, moved; or the target, not moved
+abbrev moved : Point → Told
+moved p = given (1 ∷ []) (coordinates p)
+
+abbrev notMoved : Point → Told
+notMoved p = given (0 ∷ []) (coordinates p)
+
+-- what `walk` promises holds of the answer k, with nothing refused
+abbrev Walks : Float → Point → Point → ℕ → Type 0
+Walks m s t k = Counts (walkRefusal m s t) (Walk m s t) (given (k ∷ []) [])
+
+-- of all permitted feet a and b the mask gives one
+abbrev Merges : ℕ → (Feet → Feet → Feet) → Type 0
+Merges mask pick = (a b : Feet) → permittedFeet footLimit a ≡ true → permittedFeet footLimit b ≡ true
+    → mergeTold a b mask ≡ givenFeet (pick a b)
 
 abbrev pub cases : List (Type 0)
 cases =
     -- p1 (0,0,0) to (1/4,0,0), m 1/8: (1/8,0,0), moved
-    (moveTold start quarter (over 1 8) ≡ given (1 ∷ []) (coordinates eighth))
+    (moveTold start quarter (over 1 8) ≡ moved eighth)
     -- p2 from there: target, moved
-    ∷ (moveTold eighth quarter (over 1 8) ≡ given (1 ∷ []) (coordinates quarter))
+    ∷ (moveTold eighth quarter (over 1 8) ≡ moved quarter)
     -- p3 from there: not moved
-    ∷ (moveTold quarter quarter (over 1 8) ≡ given (0 ∷ []) (coordinates quarter))
+    ∷ (moveTold quarter quarter (over 1 8) ≡ notMoved quarter)
     -- p4 x -0 to +0, rest equal: +0, not moved
-    ∷ (moveTold (at (minus 0 1) zero) start (over 1 8) ≡ given (0 ∷ []) (coordinates start))
+    ∷ (moveTold (at (minus 0 1) zero) start (over 1 8) ≡ notMoved start)
     -- p5 p1 with m 0: (0,0,0), moved
-    ∷ (moveTold start quarter zero ≡ given (1 ∷ []) (coordinates start))
+    ∷ (moveTold start quarter zero ≡ moved start)
     -- p6 (0,0,0) to (3/8,1/2,0), m 5/8: one step
-    ∷ (moveTold start (at (over 3 8) (over 1 2)) (over 5 8) ≡ given (1 ∷ []) (coordinates (at (over 3 8) (over 1 2))))
+    ∷ (moveTold start slant (over 5 8) ≡ moved slant)
+    ∷ Walks (over 5 8) start slant 1
     -- p7 p1's walk: 2
-    ∷ Walk (over 1 8) start quarter 2
+    ∷ Walks (over 1 8) start quarter 2
     -- p8 mask 0 merges nothing, 63 all
-    ∷ (mergeTold (all start) (all quarter) 0 ≡ givenFeet (all start))
-    ∷ (mergeTold (all start) (all quarter) 63 ≡ givenFeet (all quarter))
+    ∷ Merges 0 (λ a b. a)
+    ∷ Merges 63 (λ a b. b)
     -- p9 mask of LRL_TRIPOD, two values: refusal 5
-    ∷ (updateTold (all start) (quarter ∷ quarter ∷ []) 21 ≡ refused 5)
+    ∷ (updateTold (all start) (quarter ∷ quarter ∷ []) lrlTripod ≡ refused 5)
     -- p10 period 1/2 s, elapsed 1/4 s: progress 1; even pace: 1/2
     ∷ (timedProgressTold (nanoseconds 250000000) (nanoseconds 500000000) ≡ given [] (over 1 1 ∷ []))
     ∷ (evenProgressTold (nanoseconds 250000000) (nanoseconds 500000000) ≡ given [] (over 1 2 ∷ []))

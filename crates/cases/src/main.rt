@@ -6,14 +6,14 @@ use hopper::legs::Feet;
 use hopper::legs::Planned;
 use hopper::legs::Point;
 use hopper::numbers::Answer;
-use hopper::numbers::Pattern;
 use hopper::steps::Time;
 use libc::STDOUT_FILENO;
+use numbers::patterns::Pattern;
 
 // A blank, and the bits of a float.
 fn float(x: f32) {
     io::write_all(STDOUT_FILENO, b" ");
-    match hopper::numbers::pattern_of(x) {
+    match numbers::patterns::pattern_of(x) {
         Pattern::Bits(b) => {
             io::print_hex(STDOUT_FILENO, b as u64, 8);
         }
@@ -23,6 +23,7 @@ fn float(x: f32) {
     }
 }
 
+// A refusal's number, and the line's end.
 fn refused(n: u32) {
     io::write_all(STDOUT_FILENO, b" refused ");
     io::print_decimal(STDOUT_FILENO, n as u64);
@@ -36,6 +37,7 @@ fn case(n: u64) {
     io::write_all(STDOUT_FILENO, b":");
 }
 
+// Three floats, and the line's end.
 fn point(p: Point) {
     float(p.x);
     float(p.y);
@@ -43,6 +45,7 @@ fn point(p: Point) {
     io::write_all(STDOUT_FILENO, b"\n");
 }
 
+// Whether a step moved, and where it ends.
 fn step(s: MoveStep) {
     match s {
         MoveStep::Moved(p) => {
@@ -56,6 +59,7 @@ fn step(s: MoveStep) {
     }
 }
 
+// p1 to p6: one step.
 fn towards(n: u64, last: Point, target: Point, max_move: f32) {
     case(n);
     match hopper::foot_moves::move_towards(last, target, max_move) {
@@ -64,6 +68,7 @@ fn towards(n: u64, last: Point, target: Point, max_move: f32) {
     }
 }
 
+// p6 and p7: a walk's count.
 fn walked(n: u64, max_move: f32, start: Point, target: Point) {
     case(n);
     match hopper::foot_moves::walk(max_move, start, target) {
@@ -85,6 +90,7 @@ fn planned(n: u64, p: Planned) {
     }
 }
 
+// A float, or why not.
 fn number(n: u64, a: Answer) {
     case(n);
     match a {
@@ -96,10 +102,12 @@ fn number(n: u64, a: Answer) {
     }
 }
 
+// (x, y, 0).
 fn at(x: f32, y: f32) -> Point {
     Point { x: x, y: y, z: 0.0 }
 }
 
+// Six feet at one point.
 fn all(p: Point) -> Feet {
     Feet {
         left_front: p,
@@ -111,6 +119,7 @@ fn all(p: Point) -> Feet {
     }
 }
 
+// A time below a second, or of 10^9 nanoseconds or more.
 fn nanoseconds(n: u32) -> Time {
     Time {
         seconds: 0,
@@ -118,50 +127,62 @@ fn nanoseconds(n: u32) -> Time {
     }
 }
 
-fn main() {
+// p1 to p7.
+fn moves() {
     let start = at(0.0, 0.0);
     let eighth = at(0.125, 0.0);
     let quarter = at(0.25, 0.0);
+    let slant = at(0.375, 0.5);
     towards(1, start, quarter, 0.125);
     towards(2, eighth, quarter, 0.125);
     towards(3, quarter, quarter, 0.125);
     towards(4, at(-0.0, 0.0), start, 0.125);
     towards(5, start, quarter, 0.0);
-    towards(6, start, at(0.375, 0.5), 0.625);
+    towards(6, start, slant, 0.625);
+    walked(6, 0.625, start, slant);
     walked(7, 0.125, start, quarter);
-    planned(8, hopper::legs::merge_with(all(start), all(quarter), 0));
-    planned(8, hopper::legs::merge_with(all(start), all(quarter), 63));
+}
+
+// p8 and p12: a merge.
+fn merged(n: u64, a: Feet, b: Feet, mask: u32) {
+    planned(n, hopper::legs::merge_with(a, b, mask));
+}
+
+// p9: an update by so many points, all the same.
+fn updated(n: u64, feet: Feet, value: Point, count: usize, mask: u32) {
     planned(
-        9,
-        hopper::legs::updated_from_first(
-            all(start),
-            [quarter; 64],
-            2,
-            hopper::legs::flags::LRL_TRIPOD,
-        ),
+        n,
+        hopper::legs::updated_from_first(feet, [value; 64], count, mask),
     );
+}
+
+// p10: progress as the source paces it, of times in nanoseconds.
+fn timed(n: u64, elapsed: u32, period: u32) {
     number(
-        10,
-        hopper::steps::timed_progress(nanoseconds(250_000_000), nanoseconds(500_000_000)),
+        n,
+        hopper::steps::timed_progress(nanoseconds(elapsed), nanoseconds(period)),
     );
+}
+
+// p10 and p11: progress at even pace.
+fn even(n: u64, elapsed: u32, period: u32) {
     number(
-        10,
-        hopper::steps::even_progress(nanoseconds(250_000_000), nanoseconds(500_000_000)),
+        n,
+        hopper::steps::even_progress(nanoseconds(elapsed), nanoseconds(period)),
     );
-    number(
-        11,
-        hopper::steps::even_progress(nanoseconds(999_999_999), nanoseconds(500_000_000)),
-    );
-    number(
-        11,
-        hopper::steps::even_progress(nanoseconds(1_000_000_000), nanoseconds(500_000_000)),
-    );
-    planned(
-        12,
-        hopper::legs::merge_with(
-            all(at(hopper::numbers::from_pattern(0x7fc0_0000), 0.0)),
-            all(start),
-            64,
-        ),
-    );
+}
+
+fn main() {
+    let start = all(at(0.0, 0.0));
+    let quarter = at(0.25, 0.0);
+    let lost = all(at(hopper::numbers::from_pattern(0x7fc0_0000), 0.0));
+    moves();
+    merged(8, start, all(quarter), 0);
+    merged(8, start, all(quarter), 63);
+    updated(9, start, quarter, 2, hopper::legs::flags::lrl_tripod());
+    timed(10, 250_000_000, 500_000_000);
+    even(10, 250_000_000, 500_000_000);
+    even(11, 999_999_999, 500_000_000);
+    even(11, 1_000_000_000, 500_000_000);
+    merged(12, lost, start, 64);
 }

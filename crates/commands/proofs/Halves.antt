@@ -1,4 +1,5 @@
--- A whole number in two halves of 24 digits: each half is an f32 as it stands, so that their sum is rounded once, to the nearest f32 of the whole.
+-- A whole number in two halves of 24 digits: each half is an f32 as it stands, so that their sum is rounded once, to the
+-- nearest f32 of the whole.
 use mathlib.Core.Path.{_≡_, sym, ap, _∙_}
 use mathlib.Core.Bool.{true, false, true≢false}
 use Prim.Native.Nat.{ℕ, _+_, _*_, _/_, _%_, _^_, _<_}
@@ -46,14 +47,20 @@ raised-exact a h =
     (lt-trans (shl-lt 24 173 h) (lit< tt))
     (mul-assoc a 16777216 (2 ^ 149) ∙ sym (mul-one (a * 2 ^ 173)))
 
-pub two-halves : (n : ℕ) → n < 2 ^ 32 → add binary32 (mul binary32 (ofInt binary32 (pos (n / 16777216))) (ofBits binary32 1266679808)) (ofInt binary32 (pos (n % 16777216))) ≡ wholeNumber n
+pub two-halves : (n : ℕ) → n < 2 ^ 32
+    → add binary32
+    (mul binary32 (ofInt binary32 (pos (n / 16777216))) (ofBits binary32 1266679808))
+    (ofInt binary32 (pos (n % 16777216)))
+    ≡ wholeNumber n
 unfolding ofInt wholeNumber
 two-halves n h =
     let low : n % 16777216 < 16777216 = mod-lt n (zero-lt-suc 16777215) in
     let whole : n / 16777216 * 16777216 + n % 16777216 ≡ n = div-add-mod' n 16777216 in
     let high : n / 16777216 < 16777216 = omega arith in
-    let v : HasValue (round binary32 false (n / 16777216) 1) false (n / 16777216) 1 = round-whole binary32 false (n / 16777216) (omega arith) in
-    let w : HasValue (round binary32 false (n % 16777216) 1) false (n % 16777216) 1 = round-whole binary32 false (n % 16777216) (omega arith) in
+    let v : HasValue (round binary32 false (n / 16777216) 1) false (n / 16777216) 1 =
+    round-whole binary32 false (n / 16777216) (omega arith) in
+    let w : HasValue (round binary32 false (n % 16777216) 1) false (n % 16777216) 1 =
+    round-whole binary32 false (n % 16777216) (omega arith) in
     ap (λ (x : Float). add binary32 x (round binary32 false (n % 16777216) 1)) (raised _ _ v)
     ∙ sum-rounds _ _ _ _ (raised-exact (n / 16777216) high) w
     ∙ ap (λ (x : ℕ). round binary32 false x 1) whole

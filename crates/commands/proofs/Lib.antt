@@ -1,4 +1,5 @@
 mod Halves
-pub mod Laws
 pub mod OneAnswer
 pub mod Constants
+pub mod OnePass
+pub mod Uncapped

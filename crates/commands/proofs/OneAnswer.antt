@@ -6,19 +6,37 @@ use Prim.Native.Nat.{ℕ}
 use lib.Dec.{eqb}
 use lib.ListN.{getD}
 use lib.Ieee.{Float, nan}
-use Rattle.numbers.specs.Told.{Told}
-use Rattle.commands.specs.Answers.{mark, commandMarks, commandValues, told, toldShould}
+use Rattle.numbers.specs.Told.{Told, choose}
+use Rattle.commands.specs.Answers.{mark, tripodMark, commandMarks, commandValues, toldTripod, told, toldShould}
 use Rattle.commands.specs.Command.{command}
+use Rattle.commands.specs.declared.Tripod.{Tripod}
+use Rattle.commands.specs.declared.Tripod.the-variants.{LRL, RLR}
 use Rattle.commands.specs.declared.MoveCommand.{MoveCommand}
 use Rattle.commands.specs.declared.Commanded.{Commanded}
 use Rattle.commands.specs.declared.Commanded.the-variants.{Command, Refused}
 use Rattle.commands.specs.declared.ShouldMove.{ShouldMove}
 use Rattle.commands.specs.declared.ShouldMove.the-variants.{Yes, No, Refused as RefusedToSay}
 
+-- telling that can be undone loses nothing
+pub undone : {A : Type 0} (tell : A → Told) (back : Told → A) → ((a : A) → back (tell a) ≡ a) → (a b : A) → tell a ≡ tell b → a ≡ b
+undone tell back is a b e = sym (is a) ∙ ap back e ∙ is b
+
 -- a flag is settled by its mark
 pub flag-of-mark : (b : Bool) → eqb (mark b) 1 ≡ b
 flag-of-mark true = refl
 flag-of-mark false = refl
+
+-- and a tripod
+pub tripod-of-mark : ℕ → Tripod
+tripod-of-mark n = choose (eqb n 1) RLR LRL
+
+pub tripod-back : (t : Tripod) → tripod-of-mark (tripodMark t) ≡ t
+unfolding tripod-of-mark
+tripod-back LRL = refl
+tripod-back RLR = refl
+
+pub toldTripod-loses-nothing : (a b : Tripod) → toldTripod a ≡ toldTripod b → a ≡ b
+toldTripod-loses-nothing = undone toldTripod (λ t. tripod-of-mark (getD (t .marks) 0 0)) tripod-back
 
 -- the command that these marks and values tell of
 from-told : List ℕ → List Float → MoveCommand

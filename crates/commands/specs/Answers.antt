@@ -4,6 +4,8 @@ use mathlib.Core.Bool.{Bool}
 use mathlib.Core.List.{List, [], _∷_}
 use lib.Ieee.{Float}
 use Rattle.numbers.specs.Told.{Told, refused, given, choose}
+use Rattle.commands.specs.declared.Tripod.{Tripod}
+use Rattle.commands.specs.declared.Tripod.the-variants.{LRL, RLR}
 use Rattle.commands.specs.declared.MoveCommand.{MoveCommand}
 use Rattle.commands.specs.declared.Commanded.{Commanded}
 use Rattle.commands.specs.declared.Commanded.the-variants.{Command, Refused}
@@ -13,6 +15,14 @@ use Rattle.commands.specs.declared.ShouldMove.the-variants.{Yes, No, Ref
 -- a flag is 1 or 0
 abbrev pub mark : Bool → ℕ
 mark b = choose b 1 0
+
+-- a tripod is 0 for LRL, 1 for RLR
+abbrev pub tripodMark : Tripod → ℕ
+tripodMark LRL = 0
+tripodMark RLR = 1
+
+abbrev pub toldTripod : Tripod → Told
+toldTripod t = given (tripodMark t ∷ []) []
 
 -- a command's marks: step time in seconds and nanoseconds, the flag; its values: direction, rotation, step height
 abbrev pub commandMarks : MoveCommand → List ℕ

@@ -1,4 +1,5 @@
--- Document 01: "A command holds direction, rotation, step time and step height, besides `aggressive_leg_lift`; `should_move` compares with f32 EPSILON, strictly."
+-- Document 01: "A command holds direction, rotation, step time and step height, besides `aggressive_leg_lift`;
+-- `should_move` compares with f32 EPSILON, strictly."
 use Prim.Native.Nat.{ℕ, _*_, _^_}
 use mathlib.Core.Bool.{Bool, false, not, _&&_}
 use mathlib.Core.List.{[], _∷_}
@@ -13,12 +14,15 @@ use Rattle.commands.specs.Answers.{mark, givenCommand}
 use Rattle.commands.specs.declared.Time.{Time}
 use Rattle.commands.specs.declared.MoveCommand.{MoveCommand}
 
--- the source's constants: step time 600 ms, step height 0.03
+-- the source's defaults: step time 600 ms, step height 0.03 m, step distance 0.025 m
+abbrev pub defaultStepTime : Time
+defaultStepTime = record { seconds = 0; nanoseconds = 600 * 10 ^ 6 }
+
 unfoldable pub defaultStepHeight : Float
 defaultStepHeight = over 3 100
 
-abbrev pub defaultStepTime : Time
-defaultStepTime = record { seconds = 0; nanoseconds = 600 * 10 ^ 6 }
+unfoldable pub defaultStepDistance : Float
+defaultStepDistance = over 25 1000
 
 -- direction x and y, rotation, step time, step height, the flag
 abbrev pub command : Float → Float → Float → Time → Float → Bool → MoveCommand

@@ -1,5 +1,5 @@
 -- Document 01, "Permitted numbers" and "Numbered refusals": elapsed, period and step time. Under "Steps": how a time becomes f32.
-use Prim.Native.Nat.{ℕ, _+_, _*_, _^_, min}
+use Prim.Native.Nat.{ℕ, _+_, _*_, _^_}
 use mathlib.Core.Bool.{Bool, false, _&&_}
 use lib.Dec.{ltb, leb}
 use lib.Ieee.{Float, binary32, round, add, div}
@@ -24,13 +24,9 @@ periodPermitted t =
 unfoldable pub wholeNumber : ℕ → Float
 wholeNumber n = round binary32 false n 1
 
--- at most 2^24 whole seconds: up to there f32 counts one by one, and the door lets 3600 pass
-abbrev pub counted : ℕ → ℕ
-counted n = min n (2 ^ 24)
-
 -- "Seconds become f32; nanoseconds, rounded to f32, are divided by 10^9 and added."
 unfoldable pub inSeconds : Time → Float
 inSeconds t =
     add binary32
-    (wholeNumber (counted (t .seconds)))
+    (wholeNumber (t .seconds))
     (div binary32 (wholeNumber (t .nanoseconds)) (wholeNumber (10 ^ 9)))

@@ -1,8 +1,8 @@
 -- The two tripods of the source: left front, right middle and left rear are lifted together, or the other three.
-use Prim.Native.Nat.{ℕ, _+_}
+use Prim.Native.Nat.{ℕ}
 use mathlib.Core.Bool.{Bool, true, false}
 use Rattle.legs.specs.Legs.{Leg, leftFront, rightFront, leftMiddle, rightMiddle, leftRear, rightRear}
-use Rattle.legs.specs.Masks.{weight}
+use Rattle.legs.specs.Flags.{lrlTripod, rlrTripod}
 use Rattle.commands.specs.declared.Tripod.{Tripod}
 use Rattle.commands.specs.declared.Tripod.the-variants.{LRL, RLR}
 
@@ -10,10 +10,10 @@ abbrev pub inverted : Tripod → Tripod
 inverted LRL = RLR
 inverted RLR = LRL
 
--- the sum of its legs' bits
+-- the mask of its legs
 abbrev pub flagOf : Tripod → ℕ
-flagOf LRL = weight leftFront + weight rightMiddle + weight leftRear
-flagOf RLR = weight rightFront + weight leftMiddle + weight rightRear
+flagOf LRL = lrlTripod
+flagOf RLR = rlrTripod
 
 abbrev pub isLRL : Tripod → Bool
 isLRL LRL = true

@@ -4,7 +4,8 @@ use crate::Time;
 use numbers::door;
 use numbers::limits;
 ghost use mathlib.Core.Path.{_≡_};
-ghost use Rattle.commands.specs.Times.{wholeNumber, counted, elapsedPermitted, periodPermitted, inSeconds};
+ghost use Rattle.commands.specs.Times.{wholeNumber, elapsedPermitted, periodPermitted, inSeconds};
+ghost use Rattle.commands.specs.How.{counted, capped};
 ghost use Rattle.commands.specs.Command.{finiteCommand, permittedCommand, shouldMove};
 
 // Whether an elapsed time is in the table: at most 3600 s and nanoseconds below 10^9.
@@ -48,7 +49,7 @@ fn counted(seconds: u64) -> u64
 
 // A time as f32 seconds. More than 2^24 whole seconds count as 2^24; the door lets 3600 pass.
 pub fn as_secs_f32(t: Time) -> f32
-    ensures { λ r. ⌜ r ≡ inSeconds t ⌝ }
+    ensures { λ r. ⌜ r ≡ inSeconds (capped t) ⌝ }
 {
     let seconds = counted(t.seconds) as f32;
     seconds + rounded(t.nanoseconds) / 1000000000.0

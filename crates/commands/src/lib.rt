@@ -2,16 +2,12 @@
 // Lengths are metres, angles radians, times seconds and nanoseconds.
 use numbers::door;
 ghost use mathlib.Core.Path.{_≡_};
-ghost use Rattle.commands.specs.Answers.{told, toldShould};
-ghost use Rattle.commands.specs.Command.{commandRefusal, defaultCommand, checkedTold, newTold, withTold, shouldMoveTold};
+ghost use Rattle.commands.specs.Answers.{told, toldShould, toldTripod};
+ghost use Rattle.commands.specs.Command.{defaultStepTime, defaultStepHeight, defaultStepDistance, defaultCommand};
+ghost use Rattle.commands.specs.Command.{commandRefusal, checkedTold, newTold, withTold, shouldMoveTold};
 ghost use Rattle.commands.specs.Tripods.{inverted, flagOf};
 
 pub mod core;
-
-// 0.03 and 0.025, in metres, as the source has them.
-pub const DEFAULT_STEP_HEIGHT: f32 = 0.03;
-
-pub const DEFAULT_STEP_DISTANCE: f32 = 0.025;
 
 // Whole seconds, and nanoseconds below 10^9.
 pub struct Time {
@@ -48,10 +44,34 @@ pub enum Tripod {
     RLR,
 }
 
+// The source's default step time, 600 ms.
+pub fn default_step_time() -> Time
+    ensures { λ r. ⌜ r ≡ defaultStepTime ⌝ }
+{
+    Time {
+        seconds: 0,
+        nanoseconds: 600_000_000,
+    }
+}
+
+// The source's default step height, 0.03 m.
+pub fn default_step_height() -> f32
+    ensures { λ r. ⌜ r ≡ defaultStepHeight ⌝ }
+{
+    0.03
+}
+
+// The source's default step distance, 0.025 m.
+pub fn default_step_distance() -> f32
+    ensures { λ r. ⌜ r ≡ defaultStepDistance ⌝ }
+{
+    0.025
+}
+
 impl Tripod {
     // The other three legs.
     pub fn invert(self) -> Tripod
-        ensures { λ r. ⌜ r ≡ inverted self ⌝ }
+        ensures { λ r. ⌜ toldTripod r ≡ toldTripod (inverted self) ⌝ }
     {
         match self {
             Tripod::LRL => Tripod::RLR,
@@ -64,14 +84,14 @@ impl Tripod {
         ensures { λ r. ⌜ r ≡ flagOf self ⌝ }
     {
         match self {
-            Tripod::LRL => legs::flags::LRL_TRIPOD,
-            Tripod::RLR => legs::flags::RLR_TRIPOD,
+            Tripod::LRL => legs::flags::lrl_tripod(),
+            Tripod::RLR => legs::flags::rlr_tripod(),
         }
     }
 }
 
 impl MoveCommand {
-    // Stand still: no direction, no rotation, the source's step time (600 ms) and height.
+    // Stand still: no direction, no rotation, the default step time and height.
     pub fn default() -> MoveCommand
         ensures { λ r. ⌜ r ≡ defaultCommand ⌝ }
     {
@@ -79,11 +99,8 @@ impl MoveCommand {
             direction_x: 0.0,
             direction_y: 0.0,
             rotation: 0.0,
-            step_time: Time {
-                seconds: 0,
-                nanoseconds: 600_000_000,
-            },
-            step_height: DEFAULT_STEP_HEIGHT,
+            step_time: default_step_time(),
+            step_height: default_step_height(),
             aggressive_leg_lift: false,
         }
     }
@@ -127,14 +144,14 @@ impl MoveCommand {
     }
 
     // Why a command is refused: the lowest number that applies, or 0.
-    pub fn refused(self) -> u32
+    fn refused(self) -> u32
         ensures { λ r. ⌜ r ≡ commandRefusal self ⌝ }
     {
-        door::first_of(
-            core::command_finite(self),
-            core::command_permitted(self),
-            door::unless(core::is_period(self.step_time), 3),
-        )
+        if core::command_permitted(self) {
+            door::unless(core::is_period(self.step_time), 3)
+        } else {
+            door::outside(core::command_finite(self))
+        }
     }
 
     // Whether the command asks for a move at all: some part of it is no smaller than f32's EPSILON.
@@ -158,10 +175,10 @@ impl MoveCommand {
 fn checked(command: MoveCommand) -> Commanded
     ensures { λ r. ⌜ told r ≡ checkedTold command ⌝ }
 {
-    let n = command.refused();
-    if n == 0 {
+    let number = command.refused();
+    if number == 0 {
         Commanded::Command(command)
     } else {
-        Commanded::Refused(n)
+        Commanded::Refused(number)
     }
 }

@@ -1,10 +1,9 @@
 -- The definitions that the contracts on foot moves cite, room by room.
-pub use Rattle.house.specs.MovesDistance
-pub use Rattle.house.specs.MovesMoving
-pub use Rattle.house.specs.MovesAnswers
-pub use Rattle.house.specs.MovesRefusals
-pub use Rattle.house.specs.MovesEntries
-pub use Rattle.house.specs.MovesIterators
-pub use Rattle.house.specs.WalksWalk
-pub use Rattle.house.specs.WalksReach
-pub use Rattle.house.specs.WalksAnswers
+pub use Rattle.gathered.specs.MovesDistance
+pub use Rattle.gathered.specs.MovesMoving
+pub use Rattle.gathered.specs.MovesAnswers
+pub use Rattle.gathered.specs.MovesRefusals
+pub use Rattle.gathered.specs.MovesEntries
+pub use Rattle.gathered.specs.MovesIterators
+pub use Rattle.gathered.specs.WalksWalk
+pub use Rattle.gathered.specs.WalksAnswers

@@ -1,9 +1,10 @@
 -- The definitions that the contracts on legs cite, room by room.
-pub use Rattle.house.specs.LegsLegs
-pub use Rattle.house.specs.LegsMasks
-pub use Rattle.house.specs.LegsAnswers
-pub use Rattle.house.specs.LegsMerge
-pub use Rattle.house.specs.LegsSelect
-pub use Rattle.house.specs.LegsUpdate
-pub use Rattle.house.specs.RowsRows
-pub use Rattle.house.specs.RowsHow
+pub use Rattle.gathered.specs.LegsLegs
+pub use Rattle.gathered.specs.LegsVectors
+pub use Rattle.gathered.specs.LegsMasks
+pub use Rattle.gathered.specs.LegsFlags
+pub use Rattle.gathered.specs.LegsAnswers
+pub use Rattle.gathered.specs.LegsMerge
+pub use Rattle.gathered.specs.LegsSelect
+pub use Rattle.gathered.specs.LegsUpdate
+pub use Rattle.gathered.specs.RowsRows

@@ -1,15 +1,21 @@
--- The definitions that the contracts on numbers cite, room by room.
-pub use Rattle.house.specs.NumbersTold
-pub use Rattle.house.specs.NumbersDoor
-pub use Rattle.house.specs.NumbersLimits
-pub use Rattle.house.specs.NumbersAnswers
-pub use Rattle.house.specs.NumbersFinite
-pub use Rattle.house.specs.NumbersPatterns
-pub use Rattle.house.specs.RootsHow
-pub use Rattle.house.specs.RootsRoot
-pub use Rattle.house.specs.SinesHow
-pub use Rattle.house.specs.SinesBands
-pub use Rattle.house.specs.SinesEntries
-pub use Rattle.house.specs.ArcsWedges
-pub use Rattle.house.specs.ArcsEntries
-pub use Rattle.house.specs.ArcsHow
+-- The definitions that the contracts on numbers cite, room by room; the first of them, and units of 2 ^ -149, serve the other modules too.
+pub use Rattle.gathered.specs.NumbersTold
+pub use Rattle.gathered.specs.NumbersDoor
+pub use Rattle.gathered.specs.NumbersLimits
+pub use Rattle.gathered.specs.NumbersAnswers
+pub use Rattle.gathered.specs.NumbersFinite
+pub use Rattle.gathered.specs.UnitsUnits
+pub use Rattle.gathered.specs.UnitsPatterns
+pub use Rattle.gathered.specs.SeriesFractions
+pub use Rattle.gathered.specs.SeriesSeries
+pub use Rattle.gathered.specs.SeriesWorking
+pub use Rattle.gathered.specs.ArcRowsArcTangent
+pub use Rattle.gathered.specs.RootsHow
+pub use Rattle.gathered.specs.RootsRoot
+pub use Rattle.gathered.specs.RootsEntries
+pub use Rattle.gathered.specs.SinesHow
+pub use Rattle.gathered.specs.SinesBands
+pub use Rattle.gathered.specs.SinesEntries
+pub use Rattle.gathered.specs.ArcsWedges
+pub use Rattle.gathered.specs.ArcsEntries
+pub use Rattle.gathered.specs.ArcsHow

@@ -1,91 +1,89 @@
 // The face: every public entry and type, under document 01's module names. No code.
 
-// Square root, sine, cosine, arc cosine, atan2, absolute value, min, max; floats from and to their bits.
+// Square root, sine, cosine, arc cosine, atan2, absolute value, min, max; floats from their bits.
 pub mod numbers {
-    pub use house::Answer;
-    pub use house::Pattern;
-    pub use house::absolute;
-    pub use house::arc_cosine;
-    pub use house::atan2;
-    pub use house::cosine;
-    pub use house::from_pattern;
-    pub use house::max;
-    pub use house::min;
-    pub use house::pattern_of;
-    pub use house::sine;
-    pub use house::square_root;
+    pub use gathered::Answer;
+    pub use gathered::absolute;
+    pub use gathered::arc_cosine;
+    pub use gathered::atan2;
+    pub use gathered::cosine;
+    pub use gathered::from_pattern;
+    pub use gathered::max;
+    pub use gathered::min;
+    pub use gathered::sine;
+    pub use gathered::square_root;
 }
 
 // Foot points and joint angles by leg, masks, selection, merge.
 pub mod legs {
-    pub use house::Feet;
-    pub use house::Joints;
-    pub use house::LegAngles;
-    pub use house::Planned;
-    pub use house::Point;
-    pub use house::Selected;
-    pub use house::as_legs;
-    pub use house::flags;
-    pub use house::from_legs;
-    pub use house::merge_with;
-    pub use house::selected_legs;
-    pub use house::updated_from_first;
-    pub use house::updated_from_selected_legs;
+    pub use gathered::Feet;
+    pub use gathered::Joints;
+    pub use gathered::LegAngles;
+    pub use gathered::Planned;
+    pub use gathered::Point;
+    pub use gathered::RowOfSix;
+    pub use gathered::Selected;
+    pub use gathered::flags;
+    pub use gathered::merge_with;
+    pub use gathered::selected_legs;
+    pub use gathered::updated_from_first;
+    pub use gathered::updated_from_selected_legs;
 }
 
 // One step towards a target, states that step, the walk that ends, the longest distance.
 pub mod foot_moves {
-    pub use house::FeetIter;
-    pub use house::FeetStep;
-    pub use house::FeetTowards;
-    pub use house::MoveStep;
-    pub use house::MovingFeet;
-    pub use house::MovingPoint;
-    pub use house::NextFeet;
-    pub use house::NextPoint;
-    pub use house::PointIter;
-    pub use house::Towards;
-    pub use house::Walked;
-    pub use house::feet_to_move_towards_iter;
-    pub use house::longest_distance;
-    pub use house::move_feet_towards;
-    pub use house::move_towards;
-    pub use house::move_vector_towards;
-    pub use house::to_move_towards_iter;
-    pub use house::walk;
-    pub use house::walk_feet;
+    pub use gathered::FeetIter;
+    pub use gathered::FeetStep;
+    pub use gathered::FeetTowards;
+    pub use gathered::MoveStep;
+    pub use gathered::MovingFeet;
+    pub use gathered::MovingPoint;
+    pub use gathered::NextFeet;
+    pub use gathered::NextPoint;
+    pub use gathered::PointIter;
+    pub use gathered::Towards;
+    pub use gathered::Walked;
+    pub use gathered::feet_to_move_towards_iter;
+    pub use gathered::longest_distance;
+    pub use gathered::move_feet_towards;
+    pub use gathered::move_towards;
+    pub use gathered::move_vector_towards;
+    pub use gathered::to_move_towards_iter;
+    pub use gathered::walk;
+    pub use gathered::walk_feet;
 }
 
 // Move commands, tripods, times; the three step iterators; the planner.
 pub mod steps {
-    pub use house::Commanded;
-    pub use house::DEFAULT_STEP_DISTANCE;
-    pub use house::DEFAULT_STEP_HEIGHT;
-    pub use house::EvenIter;
-    pub use house::EvenStepIterator;
-    pub use house::Lift;
-    pub use house::MoveCommand;
-    pub use house::NextEven;
-    pub use house::NextStep;
-    pub use house::NextTimed;
-    pub use house::ShouldMove;
-    pub use house::StepIter;
-    pub use house::StepIterator;
-    pub use house::Time;
-    pub use house::TimedIter;
-    pub use house::TimedStepIterator;
-    pub use house::Tripod;
-    pub use house::even_progress;
-    pub use house::step_with_relaxed_transformation;
-    pub use house::timed_progress;
+    pub use gathered::Commanded;
+    pub use gathered::EvenIter;
+    pub use gathered::EvenStepIterator;
+    pub use gathered::Lift;
+    pub use gathered::MoveCommand;
+    pub use gathered::NextEven;
+    pub use gathered::NextStep;
+    pub use gathered::NextTimed;
+    pub use gathered::ShouldMove;
+    pub use gathered::StepIter;
+    pub use gathered::StepIterator;
+    pub use gathered::Time;
+    pub use gathered::TimedIter;
+    pub use gathered::TimedStepIterator;
+    pub use gathered::Tripod;
+    pub use gathered::default_step_distance;
+    pub use gathered::default_step_height;
+    pub use gathered::default_step_time;
+    pub use gathered::even_progress;
+    pub use gathered::step_with_relaxed_transformation;
+    pub use gathered::timed_progress;
 }
 
 // Inverse and forward kinematics.
 pub mod joints {
-    pub use house::Body;
-    pub use house::Configuration;
-    pub use house::LegConfiguration;
-    pub use house::Solution;
-    pub use house::calculate_fk;
-    pub use house::calculate_ik;
+    pub use gathered::Body;
+    pub use gathered::Configuration;
+    pub use gathered::LegConfiguration;
+    pub use gathered::Solution;
+    pub use gathered::calculate_fk;
+    pub use gathered::calculate_ik;
 }

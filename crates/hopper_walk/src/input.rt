@@ -104,6 +104,21 @@ fn ended(buf: &mut [u8], st: State) {
     output::flushed(buf, o);
 }
 
+// After a read that gave nothing: the input has ended, or reading failed. A failure is told on standard error, and the
+// line that had begun is dropped, since the rest of it is not known.
+fn stopped(st: State, got: isize) -> State {
+    if got < 0 {
+        os::fail(b"hopper-walk: standard input");
+        State {
+            carry: carry::empty(),
+            at: st.at,
+            open: st.open,
+        }
+    } else {
+        st
+    }
+}
+
 // The turns left; none once the output is closed.
 fn next_turn(turns: u64, open: bool) -> u64
     ensures { λ r. ⌜ r ≤ turns - 1 ⌝ }
@@ -128,6 +143,7 @@ pub fn run() {
     while turns > 0 {
         let got = libc::read(STDIN_FILENO, &mut chunk);
         if got <= 0 {
+            st = stopped(st, got);
             turns = 0;
         } else {
             let n = io::count(got, &chunk);

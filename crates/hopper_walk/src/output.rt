@@ -10,13 +10,21 @@ pub struct Out {
     pub open: bool,
 }
 
+// Whether bytes were written. Where they were not, what failed is told on standard error.
+fn told(written: bool) -> bool {
+    if !written {
+        os::fail(b"hopper-walk: standard output");
+    }
+    written
+}
+
 // Writes the first n bytes out.
 fn front(buf: &[u8], n: usize) -> bool {
     if n <= buf.len() {
         let z: usize = 0;
-        io::write_all(STDOUT_FILENO, &buf[z..n])
+        told(io::write_all(STDOUT_FILENO, &buf[z..n]))
     } else {
-        false
+        told(false)
     }
 }
 

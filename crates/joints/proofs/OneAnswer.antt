@@ -1,32 +1,19 @@
 -- `told` loses nothing of an answer on joints, so no second answer fits a contract stated by it.
-use mathlib.Core.Path.{_≡_, refl, ap, ap₂}
+use mathlib.Core.Path.{_≡_, ap, ap₂}
 use mathlib.Core.List.{List, [], _∷_}
 use lib.ListN.{getD}
 use lib.Ieee.{Float, nan}
 use Rattle.numbers.specs.Told.{Told}
 use Rattle.legs.specs.Legs.{row, angles, jointsOf, values}
-use Rattle.legs.specs.declared.LegAngles.{LegAngles}
 use Rattle.legs.specs.declared.Joints.{Joints}
-use Rattle.joints.specs.Answers.{told, sideMark, toldLeg, toldLegs}
+use Rattle.joints.specs.Answers.{told, toldLegs}
 use Rattle.joints.specs.declared.Solution.{Solution}
 use Rattle.joints.specs.declared.Solution.the-variants.{Solved, Refused}
-use Rattle.joints.specs.declared.core.Side.{Side}
-use Rattle.joints.specs.declared.core.Side.the-variants.{Positive, Negative}
-use Rattle.joints.specs.declared.core.LegSolved.{LegSolved}
-use Rattle.joints.specs.declared.core.LegSolved.the-variants.{Angles, Past as LegPast}
 use Rattle.joints.specs.declared.core.LegsSolved.{LegsSolved}
 use Rattle.joints.specs.declared.core.LegsSolved.the-variants.{Joints as AllAngles, Past}
 
--- three angles and eighteen are settled by their floats
-angles-of : List Float → LegAngles
-angles-of xs = record { coxa = getD xs 0 nan; femur = getD xs 1 nan; tibia = getD xs 2 nan }
-
-same-angles : (a b : LegAngles) → jointsOf a ≡ jointsOf b → a ≡ b
-unfolding angles-of
-same-angles a b e = ap angles-of e
-
+-- eighteen angles are settled by their floats
 joints-of : List Float → Joints
-unfolding angles-of
 joints-of xs =
     record {
       «left_front» = record { coxa = getD xs 0 nan; femur = getD xs 1 nan; tibia = getD xs 2 nan };
@@ -41,7 +28,7 @@ pub joints-from-values : (i j : Joints) → values jointsOf (row (angles i)) ≡
 unfolding joints-of
 joints-from-values i j e = ap joints-of e
 
-floats : {t u : Told} → t ≡ u → t .values ≡ u .values
+pub floats : {t u : Told} → t ≡ u → t .values ≡ u .values
 floats e = ap (λ (t : Told). t .values) e
 
 pub told-loses-nothing : (a b : Solution) → told a ≡ told b → a ≡ b
@@ -50,24 +37,11 @@ told-loses-nothing (Solved i) (Refused n) e = let v : values jointsOf (row (angl
 told-loses-nothing (Refused n) (Solved j) e = let v : [] ≡ values jointsOf (row (angles j)) = floats e in cc
 told-loses-nothing (Refused n) (Refused m) e = ap Refused (ap (λ (t : Told). t .number) e)
 
-same-side : (s t : Side) → sideMark s ≡ sideMark t → s ≡ t
-same-side Positive Positive e = refl
-same-side Positive Negative e = cc
-same-side Negative Positive e = cc
-same-side Negative Negative e = refl
-
-pub toldLeg-loses-nothing : (a b : LegSolved) → toldLeg a ≡ toldLeg b → a ≡ b
-toldLeg-loses-nothing (Angles a) (Angles b) e = ap Angles (same-angles a b (floats e))
-toldLeg-loses-nothing (Angles a) (LegPast s) e = let v : jointsOf a ≡ [] = floats e in cc
-toldLeg-loses-nothing (LegPast s) (Angles b) e = let v : [] ≡ jointsOf b = floats e in cc
-toldLeg-loses-nothing (LegPast s) (LegPast t) e =
-    let m : sideMark s ∷ [] ≡ sideMark t ∷ [] = ap (λ (t : Told). t .marks) e in
-    ap LegPast (same-side s t (cc))
-
 pub toldLegs-loses-nothing : (a b : LegsSolved) → toldLegs a ≡ toldLegs b → a ≡ b
+unfolding toldLegs
 toldLegs-loses-nothing (AllAngles i) (AllAngles j) e = ap AllAngles (joints-from-values i j (floats e))
 toldLegs-loses-nothing (AllAngles i) (Past l s) e = let v : values jointsOf (row (angles i)) ≡ [] = floats e in cc
 toldLegs-loses-nothing (Past l s) (AllAngles j) e = let v : [] ≡ values jointsOf (row (angles j)) = floats e in cc
 toldLegs-loses-nothing (Past l s) (Past k t) e =
-    let m : l ∷ sideMark s ∷ [] ≡ k ∷ sideMark t ∷ [] = ap (λ (t : Told). t .marks) e in
-    ap₂ Past (cc) (same-side s t (cc))
+    let m : l ∷ s ∷ [] ≡ k ∷ t ∷ [] = ap (λ (t : Told). t .marks) e in
+    ap₂ Past (cc) (cc)

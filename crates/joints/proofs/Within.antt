@@ -1,5 +1,5 @@
--- No number passes a limit inside: where the door lets feet or motor angles through, every argument that a leg's solver hands to the root, atan2, arc cosine,
--- sine and cosine is within document 01's row for it.
+-- No number passes a limit inside: where the door lets feet or motor angles through, every argument that a leg's solver hands to the root,
+-- atan2, arc cosine, sine and cosine is within document 01's row for it.
 use mathlib.Core.Path.{_≡_, refl}
 use mathlib.Core.Bool.{Bool, true, false, _&&_}
 use lib.Dec.{T, lit≤, lit<}
@@ -12,17 +12,22 @@ use Rattle.numbers.specs.Door.{permits, unless, either}
 use Rattle.numbers.specs.Finite.{lesser}
 use Rattle.numbers.specs.Limits as rows
 use Rattle.units.specs.Units.{mag, hi, lo}
-use Rattle.legs.specs.Legs.{Leg, every, foot, angles, finitePoint, permittedPoint}
+use Rattle.legs.specs.Legs.{Leg, every, foot, angles, permittedPoint, finiteFeet, permittedFeet}
+use Rattle.legs.specs.Vectors.{minus}
 use Rattle.bounds.specs.Between.{Between, HeldPoint, HeldFeet, PointBounds}
 use Rattle.bounds.proofs.Between.{wider, sum-between, difference-between, square-between, magnitude-between, flip-between, root-between}
-use Rattle.bounds.proofs.Rows.{at-rotation, at-correction, at-offset, at-length, at-motor, sine-row, atan2-row, root-row, point-bounds, each}
+use Rattle.bounds.proofs.Rows.{at-rotation, at-correction, at-offset, at-length, at-motor, point-bounds}
+use Rattle.legs.proofs.Laws.{each-of-every}
+use Rattle.numbers.proofs.OnePass.{none-refused}
+use Rattle.bounds.proofs.Rows.{sine-row, atan2-row, root-row}
 use Rattle.legs.specs.declared.Point.{Point}
 use Rattle.legs.specs.declared.Feet.{Feet}
 use Rattle.legs.specs.declared.LegAngles.{LegAngles}
 use Rattle.legs.specs.declared.Joints.{Joints}
-use Rattle.joints.specs.Configured.{leg, permittedLeg, permittedBody, finiteConfiguration, permittedConfiguration, finiteAngles, permittedAngles}
+use Rattle.joints.specs.Configured.{leg, permittedLeg, permittedBody, permittedAngles}
+use Rattle.joints.specs.Configured.{finiteConfiguration, permittedConfiguration, finiteJoints, permittedJoints}
 use Rattle.joints.specs.Degrees.{ninety, oneFifty}
-use Rattle.joints.specs.Inverse.{square, one, minusOne, relative, horizontalDistance, cut, ikRefusal}
+use Rattle.joints.specs.Inverse.{square, one, minusOne, relativeVector, horizontalDistance, cut, ikRefusal}
 use Rattle.joints.specs.Forward.{fromMotor, baseAngle, femurTurn, tibiaTurn, fkRefusal}
 use Rattle.joints.specs.declared.configuration.Body.{Body}
 use Rattle.joints.specs.declared.configuration.LegConfiguration.{LegConfiguration}
@@ -68,7 +73,7 @@ record LegBounds (l : LegConfiguration) : Type 0 where
 leg-bounds : (l : LegConfiguration) → HeldLeg l → T (permittedLeg l) → LegBounds l
 unfolding permittedLeg
 leg-bounds l H h =
-    let p = permittedPoint rows.foot (l .position) in
+    let p = permittedPoint rows.footLimit (l .position) in
     let a = permits rows.rotation (l .«angle_offset») in
     let f = permits rows.correction (l .«femur_correction») in
     let t = permits rows.correction (l .«tibia_correction») in
@@ -113,34 +118,45 @@ angle-bounds a H h =
     let f = permits rows.motorAngle (a .femur) in
     let t = permits rows.motorAngle (a .tibia) in
     let cf = and-l (c && f) t h in
-    record { coxa = at-motor (a .coxa) (H .coxa) (and-l c f cf); femur = at-motor (a .femur) (H .femur) (and-r c f cf); tibia = at-motor (a .tibia) (H .tibia) (and-r (c && f) t h) }
+    record {
+      coxa = at-motor (a .coxa) (H .coxa) (and-l c f cf);
+      femur = at-motor (a .femur) (H .femur) (and-r c f cf);
+      tibia = at-motor (a .tibia) (H .tibia) (and-r (c && f) t h);
+    }
 
 -- ---- inverse kinematics: every argument of one leg
 pub record IkArguments (target : Point) (b : Body) (l : LegConfiguration) : Type 0 where
-  pub coxa-y : T (permits rows.atan2Argument (relative target (l .position) .y))
-  pub coxa-x : T (permits rows.atan2Argument (relative target (l .position) .x))
-  pub sideways : T (permits rows.rootArgument (add binary32 (square (relative target (l .position) .x)) (square (relative target (l .position) .y))))
+  pub coxa-y : T (permits rows.atan2Argument (relativeVector target l .y))
+  pub coxa-x : T (permits rows.atan2Argument (relativeVector target l .x))
+  pub sideways : T (permits rows.rootArgument (add binary32 (square (relativeVector target l .x)) (square (relativeVector target l .y))))
   pub straight :
       T
       (permits rows.rootArgument
-      (add binary32 (square (horizontalDistance (relative target (l .position)) (b .«coxa_length»))) (square (relative target (l .position) .z))))
-  pub ground-y : T (permits rows.atan2Argument (horizontalDistance (relative target (l .position)) (b .«coxa_length»)))
-  pub ground-x : T (permits rows.atan2Argument (neg (relative target (l .position) .z)))
+      (add binary32 (square (horizontalDistance (relativeVector target l) (b .«coxa_length»))) (square (relativeVector target l .z))))
+  pub ground-y : T (permits rows.atan2Argument (horizontalDistance (relativeVector target l) (b .«coxa_length»)))
+  pub ground-x : T (permits rows.atan2Argument (neg (relativeVector target l .z)))
 
 -- the f32 12, which is at least the root of 8² + 8²
 twelve : Float
 twelve = fin false 3 (pos 2)
 
 -- the foot lies at most 8 from its coxa in each coordinate, so at most 12 sideways
-ik-arguments : (target : Point) (b : Body) (l : LegConfiguration) → PointBounds 4 target → BodyBounds b → LegBounds l → IkArguments target b l
-unfolding relative horizontalDistance twelve mag fits
+ik-arguments :
+    (target : Point) (b : Body) (l : LegConfiguration)
+    → PointBounds 4 target
+    → BodyBounds b
+    → LegBounds l
+    → IkArguments target b l
+unfolding minus horizontalDistance twelve mag fits
 ik-arguments target b l P B L =
     let x = difference-between (P .x) (L .position .x) (lit< tt) (lit< tt) in
     let y = difference-between (P .y) (L .position .y) (lit< tt) (lit< tt) in
     let z = difference-between (P .z) (L .position .z) (lit< tt) (lit< tt) in
     let side = sum-between (square-between x (lit< tt)) (square-between y (lit< tt)) (lit< tt) (lit< tt) in
     let h = difference-between (root-between side 12 twelve tt refl (lit≤ tt)) (B .coxa) (lit< tt) (lit< tt) in
-    let far = sum-between (square-between {k = 12} (wider h (lit≤ tt) (lit≤ tt)) (lit< tt)) (square-between z (lit< tt)) (lit< tt) (lit< tt) in
+    let far =
+    sum-between (square-between {k = 12} (wider h (lit≤ tt) (lit≤ tt)) (lit< tt)) (square-between z (lit< tt)) (lit< tt) (lit< tt)
+    in
     record {
       coxa-y = atan2-row y (lit≤ tt) (lit≤ tt);
       coxa-x = atan2-row x (lit≤ tt) (lit≤ tt);
@@ -160,7 +176,11 @@ unfolding le lt eq ofBits
 at-most-one q true h = le-of-lt q one h
 at-most-one q false h = tt
 
-from-minus-one : (m : Float) (t : Bool) → lt minusOne m ≡ t → T (le m one) → T (permits rows.arcCosineArgument (choose t m minusOne))
+from-minus-one :
+    (m : Float) (t : Bool)
+    → lt minusOne m ≡ t
+    → T (le m one)
+    → T (permits rows.arcCosineArgument (choose t m minusOne))
 unfolding rows.arcCosineArgument le lt eq ofBits neg
 from-minus-one m true h u = and-i (le minusOne m) (le m one) (le-of-lt minusOne m h) u
 from-minus-one m false h u = tt
@@ -178,10 +198,17 @@ pub record FkArguments (m : LegAngles) (b : Body) (l : LegConfiguration) : Type 
 -- an angle in the leg lies from 0 to 8
 from-motor : {m c o : Float} → Between 0 8 m → Between 6 6 c → Between 2 2 o → Between 0 8 (fromMotor m c o)
 unfolding fromMotor
-from-motor m c o = magnitude-between {k = 8} (difference-between m (magnitude-between {k = 8} (sum-between c o (lit< tt) (lit< tt))) (lit< tt) (lit< tt))
+from-motor m c o =
+    magnitude-between {k = 8}
+    (difference-between m (magnitude-between {k = 8} (sum-between c o (lit< tt) (lit< tt))) (lit< tt) (lit< tt))
 
 -- so the base's from -7 to 12, the femur's from -2 to 8 and the tibia's from -4 to 16
-fk-arguments : (m : LegAngles) (b : Body) (l : LegConfiguration) → AngleBounds m → BodyBounds b → LegBounds l → FkArguments m b l
+fk-arguments :
+    (m : LegAngles) (b : Body) (l : LegConfiguration)
+    → AngleBounds m
+    → BodyBounds b
+    → LegBounds l
+    → FkArguments m b l
 unfolding baseAngle femurTurn tibiaTurn
 fk-arguments m b l M B L =
     let base = difference-between (difference-between (M .coxa) oneFifty-between (lit< tt) (lit< tt)) (L .angle) (lit< tt) (lit< tt) in
@@ -195,38 +222,47 @@ fk-arguments m b l M B L =
     }
 
 -- ---- from the door: no refusal says that all is permitted, of each leg too
-none-refused : (F P : Bool) → either (unless F 1) (unless P 2) ≡ 0 → T P
-none-refused true true e = tt
-none-refused true false e = absurd (omega arith)
-none-refused false P e = absurd (omega arith)
-
 module _ (c : Configuration) (C : HeldConfiguration c) (h : T (permittedConfiguration c)) where
   legs-bounds : (l : Leg) → LegBounds (leg c l)
   unfolding permittedConfiguration
-  legs-bounds l = leg-bounds (leg c l) (C .legs l) (each (λ l. permittedLeg (leg c l)) (and-l (every (λ l. permittedLeg (leg c l))) (permittedBody (c .body)) h) l)
+  legs-bounds l =
+      let p : Leg → Bool = λ k. permittedLeg (leg c k) in
+      leg-bounds (leg c l) (C .legs l) (each-of-every p (and-l (every p) (permittedBody (c .body)) h) l)
 
   shared-bounds : BodyBounds (c .body)
   unfolding permittedConfiguration
   shared-bounds = body-bounds (c .body) (C .body) (and-r (every (λ l. permittedLeg (leg c l))) (permittedBody (c .body)) h)
 
-pub ik-within : (f : Feet) (c : Configuration) → HeldFeet f → HeldConfiguration c → ikRefusal f c ≡ 0 → (l : Leg) → IkArguments (foot f l) (c .body) (leg c l)
+pub ik-within :
+    (f : Feet) (c : Configuration)
+    → HeldFeet f
+    → HeldConfiguration c
+    → ikRefusal f c ≡ 0
+    → (l : Leg)
+    → IkArguments (foot f l) (c .body) (leg c l)
 unfolding ikRefusal
 ik-within f c F C e l =
-    let p = every (λ l. permittedPoint rows.foot (foot f l)) in
-    let h = none-refused (every (λ l. finitePoint (foot f l)) && finiteConfiguration c) (p && permittedConfiguration c) e in
+    let p = permittedFeet rows.footLimit f in
+    let h = none-refused (finiteFeet f && finiteConfiguration c) (p && permittedConfiguration c) e in
     let g = and-r p (permittedConfiguration c) h in
     ik-arguments (foot f l) (c .body) (leg c l)
-    (point-bounds (foot f l) (F l) (each (λ l. permittedPoint rows.foot (foot f l)) (and-l p (permittedConfiguration c) h) l))
+    (point-bounds (foot f l) (F l) (each-of-every (λ k. permittedPoint rows.footLimit (foot f k)) (and-l p (permittedConfiguration c) h) l))
     (shared-bounds c C g)
     (legs-bounds c C g l)
 
-pub fk-within : (j : Joints) (c : Configuration) → ((l : Leg) → HeldAngles (angles j l)) → HeldConfiguration c → fkRefusal j c ≡ 0 → (l : Leg) → FkArguments (angles j l) (c .body) (leg c l)
+pub fk-within :
+    (j : Joints) (c : Configuration)
+    → ((l : Leg) → HeldAngles (angles j l))
+    → HeldConfiguration c
+    → fkRefusal j c ≡ 0
+    → (l : Leg)
+    → FkArguments (angles j l) (c .body) (leg c l)
 unfolding fkRefusal
 fk-within j c F C e l =
-    let p = every (λ l. permittedAngles (angles j l)) in
-    let h = none-refused (every (λ l. finiteAngles (angles j l)) && finiteConfiguration c) (p && permittedConfiguration c) e in
+    let p = permittedJoints j in
+    let h = none-refused (finiteJoints j && finiteConfiguration c) (p && permittedConfiguration c) e in
     let g = and-r p (permittedConfiguration c) h in
     fk-arguments (angles j l) (c .body) (leg c l)
-    (angle-bounds (angles j l) (F l) (each (λ l. permittedAngles (angles j l)) (and-l p (permittedConfiguration c) h) l))
+    (angle-bounds (angles j l) (F l) (each-of-every (λ k. permittedAngles (angles j k)) (and-l p (permittedConfiguration c) h) l))
     (shared-bounds c C g)
     (legs-bounds c C g l)

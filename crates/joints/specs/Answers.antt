@@ -1,5 +1,5 @@
--- Document 01's number and values for each case of an answer on joints. A leg past its limit is refusal 6; its marks are the leg, 0 to 5 in row order, and
--- the side: 0 at 90 degrees or more, 1 at -90 degrees or less.
+-- Document 01's number and values for each case of an answer on joints. A leg past its limit is refusal 6; the core's marks for it are the
+-- leg, 0 to 5 in row order, and the side: 1 at 90 degrees or more, 2 at -90 degrees or less.
 use Prim.Native.Nat.{ℕ}
 use mathlib.Core.List.{[], _∷_}
 use Rattle.numbers.specs.Told.{Told, refused, given}
@@ -7,10 +7,6 @@ use Rattle.legs.specs.Legs.{row, angles, jointsOf, values}
 use Rattle.legs.specs.declared.Joints.{Joints}
 use Rattle.joints.specs.declared.Solution.{Solution}
 use Rattle.joints.specs.declared.Solution.the-variants.{Solved, Refused}
-use Rattle.joints.specs.declared.core.Side.{Side}
-use Rattle.joints.specs.declared.core.Side.the-variants.{Positive, Negative}
-use Rattle.joints.specs.declared.core.LegSolved.{LegSolved}
-use Rattle.joints.specs.declared.core.LegSolved.the-variants.{Angles, Past as LegPast}
 use Rattle.joints.specs.declared.core.LegsSolved.{LegsSolved}
 use Rattle.joints.specs.declared.core.LegsSolved.the-variants.{Joints as AllAngles, Past}
 
@@ -22,14 +18,10 @@ abbrev pub told : Solution → Told
 told (Solved j) = givenJoints j
 told (Refused n) = refused n
 
-abbrev pub sideMark : Side → ℕ
-sideMark Positive = 0
-sideMark Negative = 1
+-- a leg that is past its limit, with its side
+abbrev pub toldPast : ℕ → ℕ → Told
+toldPast leg side = record { number = 6; marks = leg ∷ side ∷ []; values = [] }
 
-abbrev pub toldLeg : LegSolved → Told
-toldLeg (Angles a) = given [] (jointsOf a)
-toldLeg (LegPast s) = record { number = 6; marks = sideMark s ∷ []; values = [] }
-
-abbrev pub toldLegs : LegsSolved → Told
+unfoldable pub toldLegs : LegsSolved → Told
 toldLegs (AllAngles j) = givenJoints j
-toldLegs (Past l s) = record { number = 6; marks = l ∷ sideMark s ∷ []; values = [] }
+toldLegs (Past leg side) = toldPast leg side

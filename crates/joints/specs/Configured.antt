@@ -1,9 +1,11 @@
 -- A configuration by leg, and document 01's rows for its floats and for motor angles.
 use mathlib.Core.Bool.{Bool, _&&_}
 use Rattle.numbers.specs.Door.{finite, permits}
-use Rattle.numbers.specs.Limits.{foot, rotation, correction, offset, legLength, motorAngle}
-use Rattle.legs.specs.Legs.{Leg, leftFront, rightFront, leftMiddle, rightMiddle, leftRear, rightRear, every, finitePoint, permittedPoint}
+use Rattle.numbers.specs.Limits.{footLimit, rotation, correction, offset, legLength, motorAngle}
+use Rattle.legs.specs.Legs.{Leg, leftFront, rightFront, leftMiddle, rightMiddle, leftRear, rightRear}
+use Rattle.legs.specs.Legs.{angles, every, finitePoint, permittedPoint}
 use Rattle.legs.specs.declared.LegAngles.{LegAngles}
+use Rattle.legs.specs.declared.Joints.{Joints}
 use Rattle.joints.specs.declared.configuration.Body.{Body}
 use Rattle.joints.specs.declared.configuration.LegConfiguration.{LegConfiguration}
 use Rattle.joints.specs.declared.configuration.Configuration.{Configuration}
@@ -23,7 +25,7 @@ finiteLeg l = finitePoint (l .position) && finite (l .«angle_offset») && finit
 
 unfoldable pub permittedLeg : LegConfiguration → Bool
 permittedLeg l =
-    permittedPoint foot (l .position)
+    permittedPoint footLimit (l .position)
     && permits rotation (l .«angle_offset»)
     && permits correction (l .«femur_correction»)
     && permits correction (l .«tibia_correction»)
@@ -57,3 +59,9 @@ finiteAngles a = finite (a .coxa) && finite (a .femur) && finite (a .tibia)
 
 unfoldable pub permittedAngles : LegAngles → Bool
 permittedAngles a = permits motorAngle (a .coxa) && permits motorAngle (a .femur) && permits motorAngle (a .tibia)
+
+abbrev pub finiteJoints : Joints → Bool
+finiteJoints j = every (λ l. finiteAngles (angles j l))
+
+abbrev pub permittedJoints : Joints → Bool
+permittedJoints j = every (λ l. permittedAngles (angles j l))

@@ -1,4 +1,5 @@
--- Document 01, "Joints": where the six feet stand at given motor angles. Formulas and order of operations as in the source, over our sine and cosine.
+-- Document 01, "Joints": where the six feet stand at given motor angles. Formulas and order of operations as in the source, over our sine
+-- and cosine.
 use Prim.Native.Nat.{ℕ}
 use mathlib.Core.Bool.{_&&_}
 use mathlib.Core.List.{[], _∷_}
@@ -7,13 +8,14 @@ use Rattle.numbers.specs.Told.{Told, answer}
 use Rattle.numbers.specs.Door.{unless, firstOf}
 use Rattle.numbers.specs.Finite.{magnitude}
 use Rattle.sines.specs.How.{sine, cosine}
-use Rattle.legs.specs.Legs.{angles, feet, every}
+use Rattle.legs.specs.Legs.{angles, feet}
+use Rattle.legs.specs.Vectors.{plus}
 use Rattle.legs.specs.Answers.{givenFeet}
 use Rattle.legs.specs.declared.Point.{Point}
 use Rattle.legs.specs.declared.Feet.{Feet}
 use Rattle.legs.specs.declared.LegAngles.{LegAngles}
 use Rattle.legs.specs.declared.Joints.{Joints}
-use Rattle.joints.specs.Configured.{leg, finiteConfiguration, permittedConfiguration, finiteAngles, permittedAngles}
+use Rattle.joints.specs.Configured.{leg, finiteConfiguration, permittedConfiguration, finiteJoints, permittedJoints}
 use Rattle.joints.specs.Degrees.{ninety, oneFifty}
 use Rattle.joints.specs.declared.configuration.Body.{Body}
 use Rattle.joints.specs.declared.configuration.LegConfiguration.{LegConfiguration}
@@ -31,7 +33,8 @@ unfoldable pub femurTurn : LegAngles → Body → LegConfiguration → Float
 femurTurn m b l = sub binary32 (fromMotor (m .femur) (l .«femur_correction») (b .«femur_offset»)) ninety
 
 unfoldable pub tibiaTurn : LegAngles → Body → LegConfiguration → Float
-tibiaTurn m b l = sub binary32 (fromMotor (m .tibia) (l .«tibia_correction») (b .«tibia_offset»)) (sub binary32 ninety (femurTurn m b l))
+tibiaTurn m b l =
+    sub binary32 (fromMotor (m .tibia) (l .«tibia_correction») (b .«tibia_offset»)) (sub binary32 ninety (femurTurn m b l))
 
 -- the coxa, the femur and the tibia as vectors, of a leg that points along base
 abbrev pub coxaVector : Float → Float → Point
@@ -58,9 +61,6 @@ tibiaVector base turn length =
       z = neg (mul binary32 (cosine turn) length);
     }
 
-abbrev pub plus : Point → Point → Point
-plus p v = record { x = add binary32 (p .x) (v .x); y = add binary32 (p .y) (v .y); z = add binary32 (p .z) (v .z) }
-
 -- the coxa's place and the three vectors, summed in that order
 unfoldable pub standing : LegAngles → Body → LegConfiguration → Point
 standing m b l =
@@ -77,8 +77,8 @@ standingFeet j c = feet (λ l. standing (angles j l) (c .body) (leg c l))
 unfoldable pub fkRefusal : Joints → Configuration → ℕ
 fkRefusal j c =
     firstOf
-    (unless (every (λ l. finiteAngles (angles j l)) && finiteConfiguration c) 1
-    ∷ unless (every (λ l. permittedAngles (angles j l)) && permittedConfiguration c) 2
+    (unless (finiteJoints j && finiteConfiguration c) 1
+    ∷ unless (permittedJoints j && permittedConfiguration c) 2
     ∷ [])
 
 unfoldable pub fkTold : Joints → Configuration → Told

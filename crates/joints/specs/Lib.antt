@@ -3,3 +3,4 @@ pub mod Degrees
 pub mod Answers
 pub mod Inverse
 pub mod Forward
+pub mod How

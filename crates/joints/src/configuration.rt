@@ -5,8 +5,8 @@ use legs::Point;
 use numbers::door;
 use numbers::limits;
 ghost use mathlib.Core.Path.{_≡_};
-ghost use Rattle.legs.specs.Legs.{every, angles};
-ghost use Rattle.joints.specs.Configured.{finiteBody, permittedBody, finiteLeg, permittedLeg, finiteConfiguration, permittedConfiguration, finiteAngles, permittedAngles};
+ghost use Rattle.joints.specs.Configured.{finiteBody, permittedBody, finiteLeg, permittedLeg, finiteAngles, permittedAngles};
+ghost use Rattle.joints.specs.Configured.{finiteConfiguration, permittedConfiguration, finiteJoints, permittedJoints};
 
 // What all legs share: the lengths of a leg's three parts, and how far its femur and tibia motors are turned.
 pub struct Body {
@@ -25,6 +25,7 @@ pub struct LegConfiguration {
     pub tibia_correction: f32,
 }
 
+// The body and its six legs.
 pub struct Configuration {
     pub body: Body,
     pub left_front: LegConfiguration,
@@ -35,6 +36,7 @@ pub struct Configuration {
     pub right_rear: LegConfiguration,
 }
 
+// Whether the body's five floats are finite.
 pub fn body_finite(b: Body) -> bool
     ensures { λ r. ⌜ r ≡ finiteBody b ⌝ }
 {
@@ -45,6 +47,7 @@ pub fn body_finite(b: Body) -> bool
         & door::is_finite(b.tibia_offset)
 }
 
+// Whether the body's five floats are in the table.
 pub fn body_permitted(b: Body) -> bool
     ensures { λ r. ⌜ r ≡ permittedBody b ⌝ }
 {
@@ -57,6 +60,7 @@ pub fn body_permitted(b: Body) -> bool
         & door::is_permitted(offset, b.tibia_offset)
 }
 
+// Whether a leg's own six floats are finite.
 pub fn leg_finite(l: LegConfiguration) -> bool
     ensures { λ r. ⌜ r ≡ finiteLeg l ⌝ }
 {
@@ -66,16 +70,18 @@ pub fn leg_finite(l: LegConfiguration) -> bool
         & door::is_finite(l.tibia_correction)
 }
 
+// Whether a leg's own six floats are in the table.
 pub fn leg_permitted(l: LegConfiguration) -> bool
     ensures { λ r. ⌜ r ≡ permittedLeg l ⌝ }
 {
     let correction = limits::correction();
-    legs::core::point_permitted(limits::foot(), l.position)
+    legs::core::point_permitted(limits::foot_limit(), l.position)
         & door::is_permitted(limits::rotation(), l.angle_offset)
         & door::is_permitted(correction, l.femur_correction)
         & door::is_permitted(correction, l.tibia_correction)
 }
 
+// Whether all 41 floats are finite.
 pub fn finite(c: Configuration) -> bool
     ensures { λ r. ⌜ r ≡ finiteConfiguration c ⌝ }
 {
@@ -88,6 +94,7 @@ pub fn finite(c: Configuration) -> bool
         & body_finite(c.body)
 }
 
+// Whether all 41 floats are in the table.
 pub fn permitted(c: Configuration) -> bool
     ensures { λ r. ⌜ r ≡ permittedConfiguration c ⌝ }
 {
@@ -100,12 +107,14 @@ pub fn permitted(c: Configuration) -> bool
         & body_permitted(c.body)
 }
 
+// Whether a leg's three motor angles are finite.
 pub fn angles_finite(a: LegAngles) -> bool
     ensures { λ r. ⌜ r ≡ finiteAngles a ⌝ }
 {
     door::is_finite(a.coxa) & door::is_finite(a.femur) & door::is_finite(a.tibia)
 }
 
+// Whether a leg's three motor angles are in the table.
 pub fn angles_permitted(a: LegAngles) -> bool
     ensures { λ r. ⌜ r ≡ permittedAngles a ⌝ }
 {
@@ -115,8 +124,9 @@ pub fn angles_permitted(a: LegAngles) -> bool
         & door::is_permitted(limit, a.tibia)
 }
 
+// Whether all eighteen motor angles are finite.
 pub fn joints_finite(j: Joints) -> bool
-    ensures { λ r. ⌜ r ≡ every (λ l. finiteAngles (angles j l)) ⌝ }
+    ensures { λ r. ⌜ r ≡ finiteJoints j ⌝ }
 {
     angles_finite(j.left_front)
         & angles_finite(j.right_front)
@@ -126,8 +136,9 @@ pub fn joints_finite(j: Joints) -> bool
         & angles_finite(j.right_rear)
 }
 
+// Whether all eighteen motor angles are in the table.
 pub fn joints_permitted(j: Joints) -> bool
-    ensures { λ r. ⌜ r ≡ every (λ l. permittedAngles (angles j l)) ⌝ }
+    ensures { λ r. ⌜ r ≡ permittedJoints j ⌝ }
 {
     angles_permitted(j.left_front)
         & angles_permitted(j.right_front)

@@ -7,7 +7,9 @@ use legs::Joints;
 use legs::LegAngles;
 use legs::Point;
 ghost use mathlib.Core.Path.{_≡_};
-ghost use Rattle.joints.specs.Inverse.{relative, reach, getAlphaAngle, toMotor, course, legAngles, solvedLeg, solved};
+ghost use Rattle.joints.specs.Answers.{toldLegs};
+ghost use Rattle.joints.specs.Inverse.{relativeVector, getAlphaAngle, corrected};
+ghost use Rattle.joints.specs.How.{distances, heading, solvedAngles, sideOf, earlier, pastBy, legsTold};
 ghost use Rattle.joints.specs.Forward.{fromMotor, standing, standingFeet};
 
 // Rust's `to_radians` of 90 and 150 degrees: 3fc90fdb and 40278d36.
@@ -16,54 +18,49 @@ const NINETY: f32 = 1.5707964;
 const ONE_FIFTY: f32 = 2.6179938;
 
 // How far a foot is from the end of its coxa: sideways, and straight.
-pub struct Reach {
+pub struct Distances {
     pub horizontal: f32,
     pub distance: f32,
 }
 
 // How a leg sets out: from its coxa to the target, its coxa's angle, and how far the foot is.
-pub struct Course {
-    pub v: Point,
-    pub angle: f32,
-    pub to: Reach,
+pub struct Heading {
+    pub relative_vector: Point,
+    pub target_angle: f32,
+    pub distances: Distances,
 }
 
-// The two sides on which a coxa can be past its limit: at 90 degrees or more, at -90 degrees or less.
-pub enum Side {
-    Positive,
-    Negative,
+// A leg that is past its limit: its number in row order, 0 to 5, and its side, 1 at 90 degrees or more, 2 at -90 degrees or less.
+// Where no leg is past its limit, both are 0.
+pub struct PastLeg {
+    pub leg: u32,
+    pub side: u32,
 }
 
-// What one leg answers: its angles, or on which side its coxa would be past the limit.
-pub enum LegSolved {
-    Angles(LegAngles),
-    Past(Side),
-}
-
-// What six legs answer: their angles, or the first leg that is past the limit, 0 to 5 in row order, and on which side.
+// What six legs answer: their angles, or the first leg that is past its limit, and its side.
 pub enum LegsSolved {
     Joints(Joints),
-    Past(u32, Side),
+    Past(u32, u32),
 }
 
 // From the coxa's place to the target.
-pub fn relative(target: Point, position: Point) -> Point
-    ensures { λ r. ⌜ r ≡ relative target position ⌝ }
+pub fn relative_vector(target: Point, leg: LegConfiguration) -> Point
+    ensures { λ r. ⌜ r ≡ relativeVector target leg ⌝ }
 {
     Point {
-        x: target.x - position.x,
-        y: target.y - position.y,
-        z: target.z - position.z,
+        x: target.x - leg.position.x,
+        y: target.y - leg.position.y,
+        z: target.z - leg.position.z,
     }
 }
 
 // How far the foot at v is from the end of a coxa of this length.
-pub fn reach_of(v: Point, length: f32) -> Reach
-    ensures { λ r. ⌜ r ≡ reach v length ⌝ }
+pub fn distances_of(v: Point, coxa_length: f32) -> Distances
+    ensures { λ r. ⌜ r ≡ distances v «coxa_length» ⌝ }
 {
-    let horizontal = roots::core::square_root(v.x * v.x + v.y * v.y) - length;
+    let horizontal = roots::core::square_root(v.x * v.x + v.y * v.y) - coxa_length;
     let distance = roots::core::square_root(horizontal * horizontal + v.z * v.z);
-    Reach {
+    Distances {
         horizontal: horizontal,
         distance: distance,
     }
@@ -80,99 +77,124 @@ pub fn get_alpha_angle(a: f32, b: f32, c: f32) -> f32
 }
 
 // What a motor is told, for an angle in the leg.
-pub fn to_motor(correction: f32, offset: f32, angle: f32) -> f32
-    ensures { λ r. ⌜ r ≡ toMotor correction offset angle ⌝ }
+pub fn corrected(correction: f32, offset: f32, angle: f32) -> f32
+    ensures { λ r. ⌜ r ≡ corrected correction offset angle ⌝ }
 {
     numbers::core::absolute(correction + offset + angle)
 }
 
 // How one leg sets out.
-pub fn set_out(target: Point, body: Body, leg: LegConfiguration) -> Course
-    ensures { λ r. ⌜ r ≡ course target body leg ⌝ }
+pub fn set_out(target: Point, body: Body, leg: LegConfiguration) -> Heading
+    ensures { λ r. ⌜ r ≡ heading target body leg ⌝ }
 {
-    let v = relative(target, leg.position);
-    let angle = arcs::core::atan2(v.y, v.x) + leg.angle_offset;
-    let to = reach_of(v, body.coxa_length);
-    Course {
-        v: v,
-        angle: angle,
-        to: to,
+    let v = relative_vector(target, leg);
+    let target_angle = arcs::core::atan2(v.y, v.x) + leg.angle_offset;
+    let distances = distances_of(v, body.coxa_length);
+    Heading {
+        relative_vector: v,
+        target_angle: target_angle,
+        distances: distances,
     }
 }
 
 // The three angles of a leg that has set out.
-pub fn solved_angles(c: Course, body: Body, leg: LegConfiguration) -> LegAngles
-    ensures { λ r. ⌜ ((target : Point) → c ≡ course target body leg → r ≡ legAngles target body leg) ⌝ }
+pub fn calculate_ik_for_leg(heading: Heading, body: Body, leg: LegConfiguration) -> LegAngles
+    ensures { λ r. ⌜ r ≡ solvedAngles heading body leg ⌝ }
 {
-    let horizontal = c.to.horizontal;
-    let distance = c.to.distance;
-    let by_tibia = get_alpha_angle(distance, body.femur_length, body.tibia_length);
-    let by_femur = get_alpha_angle(body.tibia_length, body.femur_length, distance);
-    let ground = arcs::core::atan2(horizontal, -c.v.z);
+    let distance = heading.distances.distance;
+    let angle_by_tibia = get_alpha_angle(distance, body.femur_length, body.tibia_length);
+    let angle_by_femur = get_alpha_angle(body.tibia_length, body.femur_length, distance);
+    let ground_target_angle = arcs::core::atan2(
+        heading.distances.horizontal,
+        -heading.relative_vector.z,
+    );
+    let femur_angle = angle_by_femur + ground_target_angle;
     LegAngles {
-        coxa: ONE_FIFTY + c.angle,
-        femur: to_motor(leg.femur_correction, body.femur_offset, by_femur + ground),
-        tibia: to_motor(leg.tibia_correction, body.tibia_offset, by_tibia),
+        coxa: ONE_FIFTY + heading.target_angle,
+        femur: corrected(leg.femur_correction, body.femur_offset, femur_angle),
+        tibia: corrected(leg.tibia_correction, body.tibia_offset, angle_by_tibia),
     }
 }
 
-// One leg's angles, or on which side its coxa would be past the limit.
-pub fn calculate_ik_for_leg(c: Course, body: Body, leg: LegConfiguration) -> LegSolved
-    ensures { λ r. ⌜ ((target : Point) → c ≡ course target body leg → r ≡ solvedLeg target body leg) ⌝ }
+// On which side a coxa at this angle is past its limit: 1 at 90 degrees or more, 2 at -90 degrees or less, 0 on neither.
+fn side_of(angle: f32) -> u32
+    ensures { λ r. ⌜ r ≡ sideOf angle ⌝ }
 {
-    if c.angle >= NINETY {
-        LegSolved::Past(Side::Positive)
-    } else if c.angle <= -NINETY {
-        LegSolved::Past(Side::Negative)
+    if angle >= NINETY {
+        1
+    } else if angle <= -NINETY {
+        2
     } else {
-        LegSolved::Angles(solved_angles(c, body, leg))
+        0
     }
 }
 
-// Six legs, in the source's order; the first that is past its limit decides. All set out first, so
-// that their roots are taken side by side.
+// This leg where it is past its limit, else what later legs say.
+fn earlier(side: u32, leg: u32, later: PastLeg) -> PastLeg
+    ensures { λ r. ⌜ r ≡ earlier side leg later ⌝ }
+{
+    if side == 0 {
+        later
+    } else {
+        PastLeg {
+            leg: leg,
+            side: side,
+        }
+    }
+}
+
+// The first leg that is past its limit, of six in row order, by their coxas' angles.
+fn first_past(
+    left_front: f32,
+    right_front: f32,
+    left_middle: f32,
+    right_middle: f32,
+    left_rear: f32,
+    right_rear: f32,
+) -> PastLeg
+    ensures { λ r. ⌜ r ≡ pastBy «left_front» «right_front» «left_middle» «right_middle» «left_rear» «right_rear» ⌝ }
+{
+    let past = PastLeg { leg: 0, side: 0 };
+    let past = earlier(side_of(right_rear), 5, past);
+    let past = earlier(side_of(left_rear), 4, past);
+    let past = earlier(side_of(right_middle), 3, past);
+    let past = earlier(side_of(left_middle), 2, past);
+    let past = earlier(side_of(right_front), 1, past);
+    earlier(side_of(left_front), 0, past)
+}
+
+// Six legs, in the source's order; the first that is past its limit answers for all. All set out before
+// one is solved, so that their roots are taken side by side.
 pub fn calculate_ik(feet: Feet, config: Configuration) -> LegsSolved
-    ensures { λ r. ⌜ r ≡ solved feet config ⌝ }
+    ensures { λ r. ⌜ toldLegs r ≡ legsTold feet config ⌝ }
 {
     let body = config.body;
-    let lf = set_out(feet.left_front, body, config.left_front);
-    let rf = set_out(feet.right_front, body, config.right_front);
-    let lm = set_out(feet.left_middle, body, config.left_middle);
-    let rm = set_out(feet.right_middle, body, config.right_middle);
-    let lr = set_out(feet.left_rear, body, config.left_rear);
-    let rr = set_out(feet.right_rear, body, config.right_rear);
-    let left_front = match calculate_ik_for_leg(lf, body, config.left_front) {
-        LegSolved::Angles(angles) => angles,
-        LegSolved::Past(side) => return LegsSolved::Past(0, side),
-    };
-    let right_front = match calculate_ik_for_leg(rf, body, config.right_front) {
-        LegSolved::Angles(angles) => angles,
-        LegSolved::Past(side) => return LegsSolved::Past(1, side),
-    };
-    let left_middle = match calculate_ik_for_leg(lm, body, config.left_middle) {
-        LegSolved::Angles(angles) => angles,
-        LegSolved::Past(side) => return LegsSolved::Past(2, side),
-    };
-    let right_middle = match calculate_ik_for_leg(rm, body, config.right_middle) {
-        LegSolved::Angles(angles) => angles,
-        LegSolved::Past(side) => return LegsSolved::Past(3, side),
-    };
-    let left_rear = match calculate_ik_for_leg(lr, body, config.left_rear) {
-        LegSolved::Angles(angles) => angles,
-        LegSolved::Past(side) => return LegsSolved::Past(4, side),
-    };
-    let right_rear = match calculate_ik_for_leg(rr, body, config.right_rear) {
-        LegSolved::Angles(angles) => angles,
-        LegSolved::Past(side) => return LegsSolved::Past(5, side),
-    };
-    LegsSolved::Joints(Joints {
-        left_front: left_front,
-        left_middle: left_middle,
-        left_rear: left_rear,
-        right_front: right_front,
-        right_middle: right_middle,
-        right_rear: right_rear,
-    })
+    let left_front = set_out(feet.left_front, body, config.left_front);
+    let right_front = set_out(feet.right_front, body, config.right_front);
+    let left_middle = set_out(feet.left_middle, body, config.left_middle);
+    let right_middle = set_out(feet.right_middle, body, config.right_middle);
+    let left_rear = set_out(feet.left_rear, body, config.left_rear);
+    let right_rear = set_out(feet.right_rear, body, config.right_rear);
+    let past = first_past(
+        left_front.target_angle,
+        right_front.target_angle,
+        left_middle.target_angle,
+        right_middle.target_angle,
+        left_rear.target_angle,
+        right_rear.target_angle,
+    );
+    if past.side == 0 {
+        LegsSolved::Joints(Joints {
+            left_front: calculate_ik_for_leg(left_front, body, config.left_front),
+            left_middle: calculate_ik_for_leg(left_middle, body, config.left_middle),
+            left_rear: calculate_ik_for_leg(left_rear, body, config.left_rear),
+            right_front: calculate_ik_for_leg(right_front, body, config.right_front),
+            right_middle: calculate_ik_for_leg(right_middle, body, config.right_middle),
+            right_rear: calculate_ik_for_leg(right_rear, body, config.right_rear),
+        })
+    } else {
+        LegsSolved::Past(past.leg, past.side)
+    }
 }
 
 // The angle in the leg, for what its motor says.

@@ -9,7 +9,8 @@ use numbers::limits;
 ghost use mathlib.Core.Path.{_≡_};
 ghost use Rattle.legs.specs.Answers.{told as toldFeet};
 ghost use Rattle.joints.specs.Answers.{told};
-ghost use Rattle.joints.specs.Inverse.{ikRefusal, ikTold, answered};
+ghost use Rattle.joints.specs.Inverse.{ikRefusal, ikTold};
+ghost use Rattle.joints.specs.How.{answered};
 ghost use Rattle.joints.specs.Forward.{fkRefusal, fkTold};
 
 pub mod configuration;
@@ -25,7 +26,7 @@ pub enum Solution {
 pub fn ik_refused(feet: Feet, config: Configuration) -> u32
     ensures { λ r. ⌜ r ≡ ikRefusal feet config ⌝ }
 {
-    let foot = limits::foot();
+    let foot = limits::foot_limit();
     let permitted = legs::core::feet_permitted(foot, feet) & configuration::permitted(config);
     if permitted {
         0

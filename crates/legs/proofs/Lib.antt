@@ -1,3 +1,4 @@
+pub mod FlagNumbers
 pub mod Laws
 pub mod OneAnswer
 mod Filling

@@ -1,17 +1,19 @@
 -- `told` loses nothing of an answer on feet, so no second answer fits a contract stated by it.
-use mathlib.Core.Path.{_≡_, refl, ap, ap₂, _∙_}
+use mathlib.Core.Path.{_≡_, refl, ap, ap₂}
 use mathlib.Core.List.{List, [], _∷_, _++_}
 use Prim.Native.Nat.{ℕ}
 use lib.ListN.{getD}
 use lib.Ieee.{Float, nan}
 use Rattle.numbers.specs.Told.{Told}
-use Rattle.legs.specs.Legs.{row, foot, fromRow, coordinates, values}
-use Rattle.legs.specs.Answers.{told, givenFeet, toldSelected}
+use Rattle.legs.specs.Legs.{row, foot, fromRow, nowhere, coordinates, values}
+use Rattle.legs.specs.Answers.{told, places, givenRow, toldSelected}
 use Rattle.legs.specs.declared.Point.{Point}
 use Rattle.legs.specs.declared.Feet.{Feet}
 use Rattle.legs.specs.declared.Planned.{Planned}
 use Rattle.legs.specs.declared.Planned.the-variants.{Feet as Answered, Refused}
+use Rattle.legs.specs.declared.RowOfSix.{RowOfSix}
 use Rattle.legs.specs.declared.Selected.{Selected}
+use Rattle.legs.specs.declared.Selected.the-variants.{Legs, Refused as RefusedToSelect}
 
 -- a point and a row of points are settled by their floats
 point-of : List Float → Point
@@ -36,15 +38,36 @@ feet-from-values f g e = ap fromRow (points-from-values (row (foot f)) (row (foo
 
 pub told-loses-nothing : (a b : Planned) → told a ≡ told b → a ≡ b
 told-loses-nothing (Answered f) (Answered g) e = ap Answered (feet-from-values f g (ap (λ (t : Told). t .values) e))
-told-loses-nothing (Answered f) (Refused n) e = let v : values coordinates (row (foot f)) ≡ [] = ap (λ (t : Told). t .values) e in cc
-told-loses-nothing (Refused n) (Answered g) e = let v : [] ≡ values coordinates (row (foot g)) = ap (λ (t : Told). t .values) e in cc
+told-loses-nothing (Answered f) (Refused n) e =
+    let v : values coordinates (row (foot f)) ≡ [] = ap (λ (t : Told). t .values) e in cc
+told-loses-nothing (Refused n) (Answered g) e =
+    let v : [] ≡ values coordinates (row (foot g)) = ap (λ (t : Told). t .values) e in cc
 told-loses-nothing (Refused n) (Refused m) e = ap Refused (ap (λ (t : Told). t .number) e)
 
-pub toldSelected-loses-nothing : (a b : Selected) → toldSelected a ≡ toldSelected b → a ≡ b
-toldSelected-loses-nothing a b e =
-    let n : a .refused ≡ b .refused = ap (λ (t : Told). t .number) e in
+-- a row of six is settled by its length and its places
+made-of : ℕ → List Point → RowOfSix
+made-of n ps =
+    record {
+      len = n;
+      first = getD ps 0 nowhere;
+      second = getD ps 1 nowhere;
+      third = getD ps 2 nowhere;
+      fourth = getD ps 3 nowhere;
+      fifth = getD ps 4 nowhere;
+      sixth = getD ps 5 nowhere;
+    }
+
+same-row : (a b : RowOfSix) → givenRow a ≡ givenRow b → a ≡ b
+unfolding made-of
+same-row a b e =
     let m : a .len ∷ [] ≡ b .len ∷ [] = ap (λ (t : Told). t .marks) e in
     let l : a .len ≡ b .len = cc in
-    let r : a .row ≡ b .row = points-from-values (a .row) (b .row) (ap (λ (t : Told). t .values) e) in
-    ap (λ (k : ℕ). record { refused = k; len = a .len; row = a .row }) n
-    ∙ ap₂ (λ (k : ℕ) (ps : List Point). record { refused = b .refused; len = k; row = ps }) l r
+    ap₂ made-of l (points-from-values (places a) (places b) (ap (λ (t : Told). t .values) e))
+
+pub toldSelected-loses-nothing : (a b : Selected) → toldSelected a ≡ toldSelected b → a ≡ b
+toldSelected-loses-nothing (Legs a) (Legs b) e = ap Legs (same-row a b e)
+toldSelected-loses-nothing (Legs a) (RefusedToSelect n) e =
+    let v : values coordinates (places a) ≡ [] = ap (λ (t : Told). t .values) e in cc
+toldSelected-loses-nothing (RefusedToSelect n) (Legs b) e =
+    let v : [] ≡ values coordinates (places b) = ap (λ (t : Told). t .values) e in cc
+toldSelected-loses-nothing (RefusedToSelect n) (RefusedToSelect m) e = ap RefusedToSelect (ap (λ (t : Told). t .number) e)

@@ -1,10 +1,12 @@
 -- Points and feet that are permitted are finite, where the row's ends are. Assumes nothing.
-use mathlib.Core.Path.{_≡_}
-use mathlib.Core.Bool.{Bool, true}
-use Rattle.numbers.specs.Door.{FiniteEnds}
+use mathlib.Core.Path.{_≡_, refl}
+use mathlib.Core.Bool.{Bool, true, _&&_}
+use Rattle.numbers.specs.Door.{finite}
+use Rattle.numbers.specs.Limits.{footLimit}
 use Rattle.numbers.specs.declared.door.Limit.{Limit}
-use Rattle.numbers.proofs.OnePass.{in-row, both}
-use Rattle.legs.specs.Legs.{Leg, leftFront, rightFront, leftMiddle, rightMiddle, leftRear, rightRear, every, foot, finitePoint, permittedPoint, finiteFeet, permittedFeet}
+use Rattle.numbers.proofs.OnePass.{FiniteEnds, in-row, both}
+use Rattle.legs.specs.Legs.{Leg, leftFront, rightFront, leftMiddle, rightMiddle, leftRear, rightRear}
+use Rattle.legs.specs.Legs.{every, foot, finitePoint, permittedPoint, finiteFeet, permittedFeet}
 use Rattle.legs.specs.declared.Point.{Point}
 use Rattle.legs.specs.declared.Feet.{Feet}
 
@@ -19,3 +21,16 @@ module _ (l : Limit) (e : FiniteEnds l) where
 
   pub feet-finite : (f : Feet) → permittedFeet l f ≡ true → finiteFeet f ≡ true
   feet-finite f = all-six (λ k. permittedPoint l (foot f k)) (λ k. finitePoint (foot f k)) (λ k. point-finite (foot f k))
+
+-- ---- in document 01's row of foot coordinates
+pub in-foot-row : (p : Point) → permittedPoint footLimit p ≡ true → finitePoint p ≡ true
+unfolding footLimit finite
+in-foot-row = point-finite footLimit (refl, refl)
+
+pub in-feet-row : (f : Feet) → permittedFeet footLimit f ≡ true → finiteFeet f ≡ true
+unfolding footLimit finite
+in-feet-row = feet-finite footLimit (refl, refl)
+
+pub two-feet : (a b : Feet) →
+    (permittedFeet footLimit a && permittedFeet footLimit b) ≡ true → (finiteFeet a && finiteFeet b) ≡ true
+two-feet a b = both (in-feet-row a) (in-feet-row b)

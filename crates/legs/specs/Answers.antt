@@ -2,10 +2,13 @@
 use mathlib.Core.List.{List, [], _∷_}
 use Rattle.numbers.specs.Told.{Told, refused, given}
 use Rattle.legs.specs.Legs.{row, foot, coordinates, values}
+use Rattle.legs.specs.declared.Point.{Point}
 use Rattle.legs.specs.declared.Feet.{Feet}
 use Rattle.legs.specs.declared.Planned.{Planned}
 use Rattle.legs.specs.declared.Planned.the-variants.{Feet as Answered, Refused}
+use Rattle.legs.specs.declared.RowOfSix.{RowOfSix}
 use Rattle.legs.specs.declared.Selected.{Selected}
+use Rattle.legs.specs.declared.Selected.the-variants.{Legs, Refused as RefusedToSelect}
 
 -- six feet, in row order
 abbrev pub givenFeet : Feet → Told
@@ -15,6 +18,13 @@ abbrev pub told : Planned → Told
 told (Answered f) = givenFeet f
 told (Refused n) = refused n
 
--- a selection is a record: its number, its length, and all six places
+-- a row of six: its length is the mark, all six places are its values
+abbrev pub places : RowOfSix → List Point
+places s = s .first ∷ s .second ∷ s .third ∷ s .fourth ∷ s .fifth ∷ s .sixth ∷ []
+
+abbrev pub givenRow : RowOfSix → Told
+givenRow s = given (s .len ∷ []) (values coordinates (places s))
+
 abbrev pub toldSelected : Selected → Told
-toldSelected s = record { number = s .refused; marks = s .len ∷ []; values = values coordinates (s .row) }
+toldSelected (Legs s) = givenRow s
+toldSelected (RefusedToSelect n) = refused n

@@ -1,5 +1,6 @@
 -- Document 01, "Feet and masks": "Leg order of a row is left front, right front, left middle, right middle, left rear, right rear."
--- What is said of six legs is said of `Leg` once: `feet` makes the record, `foot` reads it, `row` lists in row order, `every` and `some` ask.
+-- What is said of six legs is said of `Leg` once: `feet` makes the record, `foot` reads it, `row` lists in row order, `every` and
+-- `some` ask.
 use mathlib.Core.Bool.{Bool, true, false, _&&_, _||_}
 use mathlib.Core.List.{List, [], _∷_, _++_}
 use lib.Ieee.{Float, nan, binary32, ofBits}

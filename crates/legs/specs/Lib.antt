@@ -1,6 +1,9 @@
 pub mod Legs
+pub mod Vectors
 pub mod Masks
+pub mod Flags
 pub mod Answers
 pub mod Merge
 pub mod Select
 pub mod Update
+pub mod How

@@ -5,7 +5,7 @@ use mathlib.Core.List.{List, [], _∷_}
 use lib.Dec.{ltb}
 use Rattle.numbers.specs.Told.{Told, choose, answer}
 use Rattle.numbers.specs.Door.{unless, when, firstOf}
-use Rattle.numbers.specs.Limits.{maskTo, foot as footLimit}
+use Rattle.numbers.specs.Limits.{maskTo, footLimit}
 use Rattle.legs.specs.Legs.{foot, feet, finiteFeet, permittedFeet}
 use Rattle.legs.specs.Masks.{has}
 use Rattle.legs.specs.Answers.{givenFeet}

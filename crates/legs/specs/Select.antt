@@ -1,18 +1,18 @@
--- Document 01: "`Vec` from `selected_legs` becomes a row of six with a length." The legs that the mask names, in row order; unused places are +0.
-use Prim.Native.Nat.{ℕ, _+_, _-_}
-use mathlib.Core.Bool.{Bool, _&&_}
+-- Document 01: "`Vec` from `selected_legs` becomes a row of six with a length." The legs that the mask names, in row order;
+-- unused places are +0.
+use Prim.Native.Nat.{ℕ}
 use mathlib.Core.List.{List, [], _∷_, _++_}
-use lib.Dec.{ltb, eqb}
-use lib.ListN.{length, set, replicate}
-use Rattle.numbers.specs.Told.{Told, choose}
+use lib.Dec.{ltb}
+use lib.ListN.{length, getD}
+use Rattle.numbers.specs.Told.{Told, choose, answer}
 use Rattle.numbers.specs.Door.{unless, when, firstOf}
-use Rattle.numbers.specs.Limits.{maskTo, foot as footLimit}
+use Rattle.numbers.specs.Limits.{maskTo, footLimit}
 use Rattle.legs.specs.Legs.{Leg, row, foot, origin, finiteFeet, permittedFeet}
 use Rattle.legs.specs.Masks.{has}
-use Rattle.legs.specs.Answers.{toldSelected}
+use Rattle.legs.specs.Answers.{givenRow}
 use Rattle.legs.specs.declared.Point.{Point}
 use Rattle.legs.specs.declared.Feet.{Feet}
-use Rattle.legs.specs.declared.Selected.{Selected}
+use Rattle.legs.specs.declared.RowOfSix.{RowOfSix}
 
 -- the points of the legs that the mask names, out of a list of legs
 abbrev pub among : Feet → ℕ → List Leg → List Point
@@ -22,18 +22,21 @@ among f m (l ∷ ls) = choose (has m l) (foot f l ∷ []) [] ++ among f m ls
 unfoldable pub named : Feet → ℕ → List Point
 named f m = among f m (row (λ l. l))
 
--- a row of six that begins with these points, six at most
-abbrev pub inSix : List Point → List Point
-inSix ps = ps ++ replicate (6 - length ps) origin
+-- a row of six with a length, of at most six points
+abbrev pub inSixPlaces : List Point → RowOfSix
+inSixPlaces ps =
+    record {
+      len = length ps;
+      first = getD ps 0 origin;
+      second = getD ps 1 origin;
+      third = getD ps 2 origin;
+      fourth = getD ps 3 origin;
+      fifth = getD ps 4 origin;
+      sixth = getD ps 5 origin;
+    }
 
-abbrev pub holding : List Point → Selected
-holding ps = record { refused = 0; len = length ps; row = inSix ps }
-
-unfoldable pub selected : Feet → ℕ → Selected
-selected f m = holding (named f m)
-
-abbrev pub noneSelected : ℕ → Selected
-noneSelected n = record { refused = n; len = 0; row = replicate 6 origin }
+unfoldable pub selected : Feet → ℕ → RowOfSix
+selected f m = inSixPlaces (named f m)
 
 -- 1: a float is NaN or infinite; 2: one is outside the table; 4: the mask is above 63
 unfoldable pub selectRefusal : Feet → ℕ → ℕ
@@ -45,11 +48,4 @@ selectRefusal f m =
     ∷ [])
 
 unfoldable pub selectTold : Feet → ℕ → Told
-selectTold f m = toldSelected (choose (eqb (selectRefusal f m) 0) (selected f m) (noneSelected (selectRefusal f m)))
-
--- one place more, where the flag stands and there is room: how a row is filled
-unfoldable pub push : Selected → Bool → Point → Selected
-push s flag p =
-    choose (flag && ltb (s .len) 6)
-    (record { refused = s .refused; len = s .len + 1; row = set (s .row) (s .len) p })
-    s
+selectTold f m = answer (selectRefusal f m) (givenRow (selected f m))

@@ -1,4 +1,5 @@
--- Document 01: "`updated_from_selected_legs` takes a lent row of foot points, as many as legs selected, in that order." What it gives, over the list.
+-- Document 01: "`updated_from_selected_legs` takes a lent row of foot points, as many as legs selected, in that order."
+-- What it gives, over the list.
 use Prim.Native.Nat.{ℕ, _+_}
 use mathlib.Core.List.{List}
 use lib.ListN.{getD}

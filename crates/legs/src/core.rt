@@ -1,10 +1,11 @@
 // The operations behind the door, total on every value, for the rooms above.
 use crate::Feet;
 use crate::Point;
-use crate::Selected;
+use crate::RowOfSix;
 use numbers::door;
 use numbers::door::Limit;
 ghost use mathlib.Core.Path.{_≡_};
+ghost use mathlib.Core.List.{[]};
 ghost use Prim.Native.Nat.{_≤_, _<_};
 ghost use lib.Dec.{ltb};
 ghost use Rattle.numbers.specs.Told.{choose};
@@ -12,7 +13,8 @@ ghost use Rattle.numbers.specs.Door.{permits, when};
 ghost use Rattle.numbers.specs.Limits.{maskTo};
 ghost use Rattle.legs.specs.Legs.{finitePoint, permittedPoint, finiteFeet, permittedFeet};
 ghost use Rattle.legs.specs.Merge.{merged};
-ghost use Rattle.legs.specs.Select.{push, noneSelected, selected};
+ghost use Rattle.legs.specs.Select.{inSixPlaces, selected};
+ghost use Rattle.legs.specs.How.{headedBy};
 ghost use Rattle.legs.specs.Update.{updated};
 
 // The first point where the flag stands, else the second.
@@ -79,48 +81,62 @@ pub fn merge_with(a: Feet, b: Feet, mask: u32) -> Feet
     }
 }
 
-// Six places with nothing in them, and why.
-pub fn none_selected(refused: u32) -> Selected
-    ensures { λ r. ⌜ r ≡ noneSelected refused ⌝ }
+// A row with nothing in it.
+fn none_selected() -> RowOfSix
+    ensures { λ r. ⌜ r ≡ inSixPlaces [] ⌝ }
 {
     let origin = Point {
         x: 0.0,
         y: 0.0,
         z: 0.0,
     };
-    Selected {
-        refused: refused,
+    RowOfSix {
         len: 0,
-        row: [origin; 6],
+        first: origin,
+        second: origin,
+        third: origin,
+        fourth: origin,
+        fifth: origin,
+        sixth: origin,
     }
 }
 
-// With p in the next place where the flag stands. A full row stays.
-fn pushed(s: Selected, flag: bool, p: Point) -> Selected
-    ensures { λ r. ⌜ r ≡ push s flag p ⌝ }
+// With p in the first place and the others each one place on, where the flag stands. A full row stays.
+fn headed_by(s: RowOfSix, flag: bool, p: Point) -> RowOfSix
+    ensures { λ r. ⌜ r ≡ headedBy s flag p ⌝ }
 {
-    let at = s.len;
-    if flag & (at < 6) {
-        let mut next = s;
-        next.row[at] = p;
-        next.len = at + 1;
-        next
+    let len = s.len;
+    if flag & (len < 6) {
+        let second = s.first;
+        let third = s.second;
+        let fourth = s.third;
+        let fifth = s.fourth;
+        let sixth = s.fifth;
+        RowOfSix {
+            len: len + 1,
+            first: p,
+            second: second,
+            third: third,
+            fourth: fourth,
+            fifth: fifth,
+            sixth: sixth,
+        }
     } else {
         s
     }
 }
 
-// The flagged legs' points, in row order.
-pub fn selected_legs(feet: Feet, mask: u32) -> Selected
+// The flagged legs' points, in row order: from the last leg to the first, each before those after it.
+pub fn selected_legs(feet: Feet, mask: u32) -> RowOfSix
     ensures { λ r. ⌜ r ≡ selected feet mask ⌝ }
 {
-    let s = none_selected(0);
-    let s = pushed(s, mask / 1 % 2 == 1, feet.left_front);
-    let s = pushed(s, mask / 8 % 2 == 1, feet.right_front);
-    let s = pushed(s, mask / 2 % 2 == 1, feet.left_middle);
-    let s = pushed(s, mask / 16 % 2 == 1, feet.right_middle);
-    let s = pushed(s, mask / 4 % 2 == 1, feet.left_rear);
-    pushed(s, mask / 32 % 2 == 1, feet.right_rear)
+    let s = none_selected();
+    let s = headed_by(s, mask / 32 % 2 == 1, feet.right_rear);
+    let s = headed_by(s, mask / 4 % 2 == 1, feet.left_rear);
+    let s = headed_by(s, mask / 16 % 2 == 1, feet.right_middle);
+    let s = headed_by(s, mask / 2 % 2 == 1, feet.left_middle);
+    let s = headed_by(s, mask / 8 % 2 == 1, feet.right_front);
+    headed_by(s, mask / 1 % 2 == 1, feet.left_front)
 }
 
 // The flagged legs take the row's points in row order, the others stay.

@@ -49,11 +49,21 @@ pub enum Planned {
     Refused(u32),
 }
 
-// A row of six with a length, and why it is refused (0: it is not). Unused places hold +0.
-pub struct Selected {
-    pub refused: u32,
+// A row of six with a length: that many places count, from the first on. The others hold +0.
+pub struct RowOfSix {
     pub len: usize,
-    pub row: [Point; 6],
+    pub first: Point,
+    pub second: Point,
+    pub third: Point,
+    pub fourth: Point,
+    pub fifth: Point,
+    pub sixth: Point,
+}
+
+// What a selection answers: the selected legs' points, or why not.
+pub enum Selected {
+    Legs(RowOfSix),
+    Refused(u32),
 }
 
 // The feet as a row: left front, right front, left middle, right middle, left rear, right rear.
@@ -94,10 +104,12 @@ pub fn from_legs(legs: [Point; 6]) -> Feet
 pub fn merge_refused(a: Feet, b: Feet, mask: u32) -> u32
     ensures { λ r. ⌜ r ≡ mergeRefusal a b mask ⌝ }
 {
-    let limit = numbers::limits::foot();
-    let finite = core::feet_finite(a) & core::feet_finite(b);
-    let permitted = core::feet_permitted(limit, a) & core::feet_permitted(limit, b);
-    door::first_of(finite, permitted, core::mask_refused(mask))
+    let limit = numbers::limits::foot_limit();
+    if core::feet_permitted(limit, a) & core::feet_permitted(limit, b) {
+        core::mask_refused(mask)
+    } else {
+        door::outside(core::feet_finite(a) & core::feet_finite(b))
+    }
 }
 
 // Exactly the flagged legs from b, the others from a.
@@ -116,12 +128,12 @@ pub fn merge_with(a: Feet, b: Feet, mask: u32) -> Planned
 pub fn selected_refused(feet: Feet, mask: u32) -> u32
     ensures { λ r. ⌜ r ≡ selectRefusal feet mask ⌝ }
 {
-    let limit = numbers::limits::foot();
-    door::first_of(
-        core::feet_finite(feet),
-        core::feet_permitted(limit, feet),
-        core::mask_refused(mask),
-    )
+    let limit = numbers::limits::foot_limit();
+    if core::feet_permitted(limit, feet) {
+        core::mask_refused(mask)
+    } else {
+        door::outside(core::feet_finite(feet))
+    }
 }
 
 // The flagged legs' points, in row order.
@@ -130,8 +142,8 @@ pub fn selected_legs(feet: Feet, mask: u32) -> Selected
 {
     let n = selected_refused(feet, mask);
     if n == 0 {
-        core::selected_legs(feet, mask)
+        Selected::Legs(core::selected_legs(feet, mask))
     } else {
-        core::none_selected(n)
+        Selected::Refused(n)
     }
 }

@@ -10,8 +10,10 @@ use lib.Dec.{eqb, leb, ltb, lit<, lit≤}
 use lib.ListN.{length, getD, length-append, List·getD-append}
 use borrow.Author.Tests.{ltb-true, leb-true, le-leb, lt-ltb, eqb-true, ne-eqb, not-true, eqb-false}
 use Rattle.lines.specs.declared.digits.Digits.{Digits}
-use Rattle.lines.specs.Digits.{choose, digit, valueOf, decimal, push, pushAll, nothingYet, readIn, countOf, leads, noDigits}
-use Rattle.lines.proofs.Flags.{and-left, and-right, lt-or-le, chosen}
+use Rattle.numbers.specs.Told.{choose}
+use Rattle.lines.specs.Digits.{digit, valueOf, decimal, push, pushAll, nothingYet, readIn, countOf, leads, noDigits}
+use Rattle.numbers.proofs.OnePass.{and-left, and-right}
+use Rattle.lines.proofs.Flags.{lt-or-le, chosen}
 use Rattle.lines.proofs.Values.{digit-of-value, by-bytes}
 use Rattle.lines.proofs.Decimal.{decimal-few, decimal-more, length-positive}
 use Rattle.lines.proofs.Exact.{read-last, push-digit, all-good}
@@ -49,7 +51,8 @@ begins-below (suc m) n h some e =
     (λ (few : n < 10). omega (arith, zero-digit n few, sym (ap (λ (s : List ℕ). getD s 0 0) (decimal-few n few)) ∙ e))
     (λ (many : 10 ≤ n).
     begins-below m (n / 10) (omega arith) (omega arith)
-    (sym (ap (λ (s : List ℕ). getD s 0 0) (decimal-more n many) ∙ List·getD-append (decimal (n / 10)) _ 0 0 (omega (arith, length-positive (n / 10)))) ∙ e))
+    (sym (ap (λ (s : List ℕ). getD s 0 0) (decimal-more n many)
+    ∙ List·getD-append (decimal (n / 10)) _ 0 0 (omega (arith, length-positive (n / 10)))) ∙ e))
     (lt-or-le n 10)
 
 pub leads-decimal : (n : ℕ) → leads (decimal n) ≡ true
@@ -62,7 +65,13 @@ leads-decimal n =
 pub count-back : (limit n : ℕ) → length (decimal n) ≤ limit → length (decimal n) ≤ 9 → countOf limit (decimal n) ≡ all-good n
 unfolding countOf
 count-back limit n few nine =
-    rw (le-leb 1 (length (decimal n)) (length-positive n), le-leb (length (decimal n)) limit few, le-leb (length (decimal n)) 9 nine, read-decimal n, leads-decimal n)
+    rw (
+      le-leb 1 (length (decimal n)) (length-positive n),
+      le-leb (length (decimal n)) limit few,
+      le-leb (length (decimal n)) 9 nine,
+      read-decimal n,
+      leads-decimal n,
+    )
 
 -- what is read is what is written
 unfoldable Spelt : List ℕ → Type 0
@@ -79,12 +88,15 @@ spelt-one b good lead some =
 -- a lead that is no 0, of a text of two bytes or more
 lead-of : (x : ℕ) (s : List ℕ) (b : ℕ) → leads ((x ∷ s) ++ (b ∷ [])) ≡ true → x ≡ 48 → ⊥
 lead-of x s b e =
-    let two : eqb (length ((x ∷ s) ++ (b ∷ []))) 1 ≡ false = ne-eqb (length ((x ∷ s) ++ (b ∷ []))) 1 (λ q. omega (arith, length-append s (b ∷ []))) in
+    let two : eqb (length ((x ∷ s) ++ (b ∷ []))) 1 ≡ false =
+    ne-eqb (length ((x ∷ s) ++ (b ∷ []))) 1 (λ q. omega (arith, length-append s (b ∷ []))) in
     eqb-false x 48 (not-true (eqb x 48) (rw two at e))
 
 positive : (x : ℕ) (s : List ℕ) (v : ℕ) → x ∷ s ≡ decimal v → (x ≡ 48 → ⊥) → 1 ≤ v
 positive x s v e n =
-    ⊎-elim (λ (none : v < 1). absurd (n (ap (λ (t : List ℕ). getD t 0 0) (e ∙ decimal-few v (omega arith)) ∙ omega (arith, zero-digit v (omega arith))))) (λ h. h) (lt-or-le v 1)
+    ⊎-elim (λ (none : v < 1). absurd
+    (n (ap (λ (t : List ℕ). getD t 0 0) (e ∙ decimal-few v (omega arith)) ∙ omega (arith, zero-digit v (omega arith))))) (λ h. h)
+    (lt-or-le v 1)
 
 spelt-more : (s : List ℕ) (b : ℕ) → Spelt s → Spelt (s ++ (b ∷ []))
 unfolding Spelt push
@@ -99,24 +111,29 @@ spelt-more (x ∷ s) b before good lead some =
     let leads′ : leads (x ∷ s) ≡ true = rw (ne-eqb x 48 not-zero, or-true) in
     let was : x ∷ s ≡ decimal (a .value) = before (and-left (a .good) (ltb d 10) good′) leads′ (omega arith) in
     let much : 1 ≤ a .value = positive x s (a .value) was not-zero in
-    let value : readIn 10 ((x ∷ s) ++ (b ∷ [])) .value ≡ a .value * 10 + d = ap (λ (y : Digits). y .value) last ∙ ap (λ (r : ℕ). a .value * 10 + r) (mod-eq-of-lt {n = d} {m = 16} (omega arith)) in
+    let value : readIn 10 ((x ∷ s) ++ (b ∷ [])) .value ≡ a .value * 10 + d =
+    ap (λ (y : Digits). y .value) last ∙ ap (λ (r : ℕ). a .value * 10 + r) (mod-eq-of-lt {n = d} {m = 16} (omega arith)) in
     let q : (a .value * 10 + d) / 10 ≡ a .value = omega arith in
     let r : (a .value * 10 + d) % 10 ≡ d = omega arith in
-    rw (value, decimal-more (a .value * 10 + d) (omega arith), q, r, digit-of-value b (omega arith)) (ap (λ (t : List ℕ). t ++ (b ∷ [])) was)
+    rw (value, decimal-more (a .value * 10 + d) (omega arith), q, r, digit-of-value b (omega arith))
+    (ap (λ (t : List ℕ). t ++ (b ∷ [])) was)
 
 pub decimal-read : (s : List ℕ) → readIn 10 s .good ≡ true → leads s ≡ true → 1 ≤ length s → s ≡ decimal (readIn 10 s .value)
 unfolding Spelt
 decimal-read = by-bytes Spelt (λ good lead some. absurd (not-suc-le-zero some)) spelt-more
 
 -- a good count: its bytes are the decimal digits of its number
-pub count-exact : (limit : ℕ) (s : List ℕ) → countOf limit s .good ≡ true → (s ≡ decimal (countOf limit s .value)) × (length s ≤ limit) × (length s ≤ 9)
+pub count-exact : (limit : ℕ) (s : List ℕ) → countOf limit s .good ≡ true → (s ≡ decimal (countOf limit s .value)) × (length s ≤ limit)
+    × (length s ≤ 9)
 unfolding countOf
 count-exact limit s =
     let n = length s in
-    chosen (λ (d : Digits). d .good ≡ true → (s ≡ decimal (d .value)) × (length s ≤ limit) × (length s ≤ 9)) (leb 1 n && leb n limit && leb n 9) (record { good = readIn 10 s .good && leads s; value = readIn 10 s .value }) noDigits
+    chosen (λ (d : Digits). d .good ≡ true → (s ≡ decimal (d .value)) × (length s ≤ limit) × (length s ≤ 9))
+    (leb 1 n && leb n limit && leb n 9) (record { good = readIn 10 s .good && leads s; value = readIn 10 s .value }) noDigits
     (λ e good.
     let front = and-left (leb 1 n && leb n limit) (leb n 9) e in (
-      decimal-read s (and-left (readIn 10 s .good) (leads s) good) (and-right (readIn 10 s .good) (leads s) good) (leb-true 1 n (and-left (leb 1 n) (leb n limit) front)),
+      decimal-read s (and-left (readIn 10 s .good) (leads s) good) (and-right (readIn 10 s .good) (leads s) good)
+          (leb-true 1 n (and-left (leb 1 n) (leb n limit) front)),
       leb-true n limit (and-right (leb 1 n) (leb n limit) front),
       leb-true n 9 (and-right (leb 1 n && leb n limit) (leb n 9) e),
     ))

@@ -9,7 +9,8 @@ use native.Mathlib.Numerals.{add-one}
 use native.Mathlib.Omega.{arith}
 use lib.ListN.{length, length-append}
 use borrow.Author.Tests.{lt-ltb, le-ltb}
-use Rattle.lines.specs.Digits.{choose, digit, decimalWithin, decimal}
+use Rattle.numbers.specs.Told.{choose}
+use Rattle.lines.specs.Digits.{digit, decimalWithin, decimal}
 use Rattle.lines.proofs.Flags.{lt-or-le}
 
 -- how far the digits may go does not matter, once it is far enough
@@ -20,7 +21,8 @@ far-enough (suc k) zero n h h′ = absurd (not-suc-le-zero h′)
 far-enough (suc k) (suc l) n h h′ =
     ⊎-elim (λ (few : n < 10). simp (lt-ltb n 10 few))
     (λ (many : 10 ≤ n).
-    ap (λ (s : List ℕ). choose (ltb n 10) (digit n ∷ []) (s ++ (digit (n % 10) ∷ []))) (far-enough k l (n / 10) (omega arith) (omega arith)))
+    ap (λ (s : List ℕ). choose (ltb n 10) (digit n ∷ []) (s ++ (digit (n % 10) ∷ [])))
+    (far-enough k l (n / 10) (omega arith) (omega arith)))
     (lt-or-le n 10)
 
 pub decimal-few : (n : ℕ) → n < 10 → decimal n ≡ digit n ∷ []
@@ -29,7 +31,9 @@ decimal-few n few = simp (lt-ltb n 10 few)
 
 pub decimal-more : (n : ℕ) → 10 ≤ n → decimal n ≡ decimal (n / 10) ++ (digit (n % 10) ∷ [])
 unfolding decimal decimalWithin
-decimal-more n many = simp (le-ltb n 10 many) (ap (λ (s : List ℕ). s ++ (digit (n % 10) ∷ [])) (far-enough n (suc (n / 10)) (n / 10) (omega arith) (omega arith)))
+decimal-more n many =
+    simp (le-ltb n 10 many)
+    (ap (λ (s : List ℕ). s ++ (digit (n % 10) ∷ [])) (far-enough n (suc (n / 10)) (n / 10) (omega arith) (omega arith)))
 
 pub length-few : (n : ℕ) → n < 10 → length (decimal n) ≡ 1
 length-few n few = ap length (decimal-few n few)

@@ -4,15 +4,19 @@ use mathlib.Core.Bool.{Bool, true, false, _&&_, _||_, not, false≢true}
 use mathlib.Core.List.{List, [], _∷_, _++_}
 use mathlib.Core.Logic.{⊎-elim}
 use Prim.Native.Nat.{ℕ, zero, suc, _+_, _*_, _/_, _%_, _≤_, _<_, _^_}
-use native.Mathlib.Nat.{pow-zero, pow-suc, mod-lt, mod-eq-of-lt, div-lt-iff-lt-mul, div-add-mod', mul-add-div-right, mul-add-mod-self-right, div-eq-of-lt, add-zero, mul-le-mul-right, suc-mul}
+use native.Mathlib.Nat.{pow-zero, pow-suc, mod-lt, mod-eq-of-lt, div-lt-iff-lt-mul, div-add-mod'}
+use native.Mathlib.Nat.{mul-add-div-right, mul-add-mod-self-right, div-eq-of-lt, add-zero, mul-le-mul-right, suc-mul}
 use native.Mathlib.Numerals.{add-one}
 use native.Mathlib.Omega.{arith}
 use lib.Dec.{eqb, leb, ltb, lit<, lit≤}
 use lib.ListN.{length, getD, length-append}
 use borrow.Author.Tests.{lt-ltb, ltb-true, leb-true}
 use Rattle.lines.specs.declared.digits.Digits.{Digits}
-use Rattle.lines.specs.Digits.{choose, digit, valueOf, numeral, hex, decimal, push, pushAll, nothingYet, readIn, hexOf, countOf, leads, noDigits}
-use Rattle.lines.proofs.Flags.{and-left, and-right, lt-or-le, chosen}
+use Rattle.numbers.specs.Told.{choose}
+use Rattle.lines.specs.Digits.{digit, valueOf, numeral, hex, decimal, push, pushAll}
+use Rattle.lines.specs.Digits.{nothingYet, readIn, hexOf, countOf, leads, noDigits}
+use Rattle.numbers.proofs.OnePass.{and-left, and-right}
+use Rattle.lines.proofs.Flags.{lt-or-le, chosen}
 use Rattle.lines.proofs.Values.{value-of-digit, digit-of-value, by-bytes}
 use Rattle.lines.proofs.Numerals.{length-numeral}
 
@@ -68,9 +72,11 @@ module _ (base : ℕ) (some : 0 < base) (few : base ≤ 16) where
       let was = before (and-left (a .good) (ltb d base) good′) in
       let long : length (s ++ (b ∷ [])) ≡ suc (length s) = length-append s (b ∷ []) ∙ add-one (length s) in
       let m : d % 16 ≡ d = mod-eq-of-lt (omega arith) in
-      let value : readIn base (s ++ (b ∷ [])) .value ≡ a .value * base + d = ap (λ (x : Digits). x .value) last ∙ ap (λ (r : ℕ). a .value * base + r) m in
+      let value : readIn base (s ++ (b ∷ [])) .value ≡ a .value * base + d =
+      ap (λ (x : Digits). x .value) last ∙ ap (λ (r : ℕ). a .value * base + r) m in
       let most : suc (a .value) * base ≤ base ^ length s * base = mul-le-mul-right base (was .1) in (
-        rw (long, value, numeral-last (length s) (a .value) d low, digit-of-value b (omega arith)) (ap (λ (t : List ℕ). t ++ (b ∷ [])) (was .0)),
+        rw (long, value, numeral-last (length s) (a .value) d low, digit-of-value b (omega arith))
+            (ap (λ (t : List ℕ). t ++ (b ∷ [])) (was .0)),
         rw (long, value, pow-suc) (omega (arith, suc-mul (a .value) base)),
       )
 
@@ -93,7 +99,11 @@ hex-exact s =
     chosen (λ (d : Digits). d .good ≡ true → (s ≡ numeral 16 8 (d .value)) × (d .value < 2 ^ 32)) (eight n) (readIn 16 s) noDigits
     (λ e good.
     let full : n ≡ 8 =
-    omega (arith, leb-true n 8 (and-right (leb 8 n) (leb n 8) (and-left (leb 8 n && leb n 8) (leb n 16) e)), leb-true 8 n (and-left (leb 8 n) (leb n 8) (and-left (leb 8 n && leb n 8) (leb n 16) e)))
+    omega (
+      arith,
+      leb-true n 8 (and-right (leb 8 n) (leb n 8) (and-left (leb 8 n && leb n 8) (leb n 16) e)),
+      leb-true 8 n (and-left (leb 8 n) (leb n 8) (and-left (leb 8 n && leb n 8) (leb n 16) e)),
+    )
     in
     let was = numeral-read 16 (lit< tt) (lit≤ tt) s good in
     (was .0 ∙ ap (λ (k : ℕ). numeral 16 k (readIn 16 s .value)) full, subst (λ (k : ℕ). readIn 16 s .value < 16 ^ k) full (was .1)))

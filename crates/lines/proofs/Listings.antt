@@ -16,12 +16,14 @@ use Rattle.lines.specs.declared.listed.Line.{Line}
 use Rattle.lines.specs.declared.listed.Line.the-variants.{Header, Move, Arrived, Refused}
 use Rattle.lines.specs.declared.listed.Found.{Found}
 use Rattle.lines.specs.declared.listed.Found.the-variants.{Known, NoLine}
-use Rattle.lines.specs.Digits.{choose, hex, decimal, countOf}
+use Rattle.numbers.specs.Told.{choose}
+use Rattle.lines.specs.Digits.{hex, decimal, countOf}
 use Rattle.lines.specs.Fields.{parted, AreBits}
 use Rattle.lines.specs.Parts.{tabbeds, allGood, bitsOf, noField, shortOf}
 use Rattle.lines.specs.Lines.{walkWord, lettered, body, Digited, Listable}
 use Rattle.lines.specs.Reading.{spells, named, headerOf, stepCount, stepFields, moved, moveOf, found, lineOf}
-use Rattle.lines.proofs.Flags.{and-left, and-right, chosen}
+use Rattle.numbers.proofs.OnePass.{and-left, and-right}
+use Rattle.lines.proofs.Flags.{chosen}
 use Rattle.lines.proofs.Decimal.{length-positive}
 use Rattle.lines.proofs.Counts.{count-back, count-exact}
 use Rattle.lines.proofs.Rows.{each, length-each, parted-each, rows-back, rows-exact, length-bits}
@@ -54,7 +56,8 @@ module _ (n : ℕ) (ps : List ℕ) (three : length ps ≡ 3) where
   move-back : (limit : ℕ) → Digited limit n → AreBits ps → moveOf limit text ≡ Known (Move (moved n ps))
   unfolding moveOf
   move-back limit d bits =
-      let was = subst (λ (k : ℕ). (allGood true (tabbeds k (each ps)) ≡ true) × (bitsOf (tabbeds k (each ps)) ≡ ps)) three (rows-back ps true bits) in
+      let was = subst (λ (k : ℕ). (allGood true (tabbeds k (each ps)) ≡ true) × (bitsOf (tabbeds k (each ps)) ≡ ps)) three
+      (rows-back ps true bits) in
       rw (le-ltb (length text) 29 (omega (arith, long)), count-part, fields-part, count-back limit n (d .0) (d .1), was .0, was .1)
 
 body-of-move : (m : Moved) → body (Move m) ≡ 77 ∷ 9 ∷ (decimal (m .count) ++ each (m .x ∷ m .y ∷ m .z ∷ []))
@@ -76,7 +79,8 @@ pub record ReadFrom (limit : ℕ) (s : List ℕ) (line : Line) : Type 0 where
   pub bytes : s ≡ body line
   pub listable : Listable limit line
 
-digited : (limit : ℕ) (t : List ℕ) → countOf limit t .good ≡ true → (t ≡ decimal (countOf limit t .value)) × Digited limit (countOf limit t .value)
+digited : (limit : ℕ) (t : List ℕ) → countOf limit t .good ≡ true → (t ≡ decimal (countOf limit t .value))
+    × Digited limit (countOf limit t .value)
 digited limit t good =
     let was = count-exact limit t good in
     (was .0, subst (λ (u : List ℕ). (length u ≤ limit) × (length u ≤ 9)) (was .0) (was .1, was .2))
@@ -86,11 +90,13 @@ two-first [] h = absurd (omega arith)
 two-first (x ∷ []) h = absurd (omega arith)
 two-first (x ∷ (y ∷ s)) h = refl
 
-short-exact : (limit b : ℕ) (s : List ℕ) → getD s 0 0 ≡ b → shortOf limit s .good ≡ true → (s ≡ b ∷ 9 ∷ decimal (shortOf limit s .bits)) × Digited limit (shortOf limit s .bits)
+short-exact : (limit b : ℕ) (s : List ℕ) → getD s 0 0 ≡ b → shortOf limit s .good ≡ true → (s ≡ b ∷ 9 ∷ decimal (shortOf limit s .bits))
+    × Digited limit (shortOf limit s .bits)
 unfolding shortOf
 short-exact limit b s first =
     let d = countOf limit (drop 2 s) in
-    chosen (λ (f : Field). f .good ≡ true → (s ≡ b ∷ 9 ∷ decimal (f .bits)) × Digited limit (f .bits)) (ltb (length s) 2) noField (record { good = eqb (getD s 1 0) 9 && d .good; bits = d .value })
+    chosen (λ (f : Field). f .good ≡ true → (s ≡ b ∷ 9 ∷ decimal (f .bits)) × Digited limit (f .bits)) (ltb (length s) 2) noField
+    (record { good = eqb (getD s 1 0) 9 && d .good; bits = d .value })
     (λ short good. absurd (false≢true good))
     (λ long good.
     let was = digited limit (drop 2 s) (and-right (eqb (getD s 1 0) 9) (d .good) good) in
@@ -98,7 +104,8 @@ short-exact limit b s first =
     (two-first s (ltb-false (length s) 2 long) ∙ rw (first, second) (ap (λ (t : List ℕ). b ∷ 9 ∷ t) (was .0)), was .1))
 
 -- a word that is spelt at a place stands there
-spelt : (ws : List ℕ) (t : Bool) (i : ℕ) (s : List ℕ) → i + length ws ≤ length s → spells t i ws s ≡ true → (t ≡ true) × (take (length ws) (drop i s) ≡ ws)
+spelt : (ws : List ℕ) (t : Bool) (i : ℕ) (s : List ℕ) → i + length ws ≤ length s → spells t i ws s ≡ true
+    → (t ≡ true) × (take (length ws) (drop i s) ≡ ws)
 spelt [] t i s room good = (good, refl)
 spelt (w ∷ ws) t i s room good =
     let was = spelt ws (t && eqb (getD s i 0) w) (suc i) s (omega arith) good in
@@ -110,7 +117,8 @@ unfolding headerOf named
 header-exact s =
     let d = countOf 9 (drop 12 s) in
     let name = walkWord ++ (9 ∷ []) in
-    chosen (λ (f : Field). f .good ≡ true → (s ≡ walkWord ++ (9 ∷ decimal (f .bits))) × Digited 9 (f .bits)) (ltb (length s) 12) noField (record { good = spells true 0 name s && d .good; bits = d .value })
+    chosen (λ (f : Field). f .good ≡ true → (s ≡ walkWord ++ (9 ∷ decimal (f .bits))) × Digited 9 (f .bits)) (ltb (length s) 12) noField
+    (record { good = spells true 0 name s && d .good; bits = d .value })
     (λ short good. absurd (false≢true good))
     (λ long good.
     let was = digited 9 (drop 12 s) (and-right (spells true 0 name s) (d .good) good) in
@@ -124,14 +132,17 @@ abbrev Kept : ℕ → List ℕ → Line → Found → Type 0
 Kept limit s line f = f ≡ Known line → ReadFrom limit s line
 
 -- the parts of a step's line, put together again
-parts : (s : List ℕ) (v : ℕ) (ps : List ℕ) → 29 ≤ length s → getD s 0 0 ≡ 77 → getD s 1 0 ≡ 9 → take (length s - 27 - 2) (drop 2 s) ≡ decimal v → drop (length s - 27) s ≡ each ps → s ≡ 77 ∷ 9 ∷ (decimal v ++ each ps)
+parts : (s : List ℕ) (v : ℕ) (ps : List ℕ) → 29 ≤ length s → getD s 0 0 ≡ 77 → getD s 1 0 ≡ 9
+    → take (length s - 27 - 2) (drop 2 s) ≡ decimal v → drop (length s - 27) s ≡ each ps → s ≡ 77 ∷ 9 ∷ (decimal v ++ each ps)
 parts s v ps long first second count fields =
     let j = length s - 27 - 2 in
     let e : 2 + j ≡ length s - 27 = omega arith in
     let rest : drop j (drop 2 s) ≡ each ps = drop-drop j 2 s ∙ ap (λ (k : ℕ). drop k s) e ∙ fields in
     two-first s (omega arith)
     ∙ rw (first, second)
-    (ap (λ (t : List ℕ). 77 ∷ 9 ∷ t) (sym (take-append-drop j (drop 2 s)) ∙ ap (λ (t : List ℕ). t ++ drop j (drop 2 s)) count ∙ ap (λ (t : List ℕ). decimal v ++ t) rest))
+    (ap (λ (t : List ℕ). 77 ∷ 9 ∷ t)
+    (sym (take-append-drop j (drop 2 s)) ∙ ap (λ (t : List ℕ). t ++ drop j (drop 2 s)) count
+    ∙ ap (λ (t : List ℕ). decimal v ++ t) rest))
 
 move-exact : (limit : ℕ) (s : List ℕ) (line : Line) → moveOf limit s ≡ Known line → ReadFrom limit s line
 unfolding moveOf tabbeds bitsOf Listable
@@ -154,13 +165,15 @@ move-exact limit s line =
     subst (ReadFrom limit s) is
     (record {
       bytes =
-          parts s (d .value) (bitsOf fs) long (eqb-true (getD s 0 0) 77 (and-left a b ab)) (eqb-true (getD s 1 0) 9 (and-right a b ab)) (count .0) (was .1)
+          parts s (d .value) (bitsOf fs) long (eqb-true (getD s 0 0) 77 (and-left a b ab)) (eqb-true (getD s 1 0) 9 (and-right a b ab))
+          (count .0) (was .1)
           ∙ sym (body-of-move m);
       listable = (count .1, was .2);
     }))
     (λ bad e. clash line e))
 
-found-exact : (limit : ℕ) (kind : ℕ → Line) (s : List ℕ) (f : Field) (line : Line) → (f .good ≡ true → ReadFrom limit s (kind (f .bits))) → found kind f ≡ Known line → ReadFrom limit s line
+found-exact : (limit : ℕ) (kind : ℕ → Line) (s : List ℕ) (f : Field) (line : Line) → (f .good ≡ true → ReadFrom limit s (kind (f .bits)))
+    → found kind f ≡ Known line → ReadFrom limit s line
 found-exact limit kind s f line read =
     chosen (Kept limit s line) (f .good) (Known (kind (f .bits))) NoLine
     (λ good e. let is : kind (f .bits) ≡ line = cc in subst (ReadFrom limit s) is (read good))

@@ -1,9 +1,11 @@
--- Digits are read one byte after the other: what is left from i on by its first byte and what is left from i + 1 on, and how large the number gets.
+-- Digits are read one byte after the other: what is left from i on by its first byte and what is left from i + 1 on, and how large the
+-- number gets.
 use mathlib.Core.Path.{_≡_, refl, ap, _∙_, sym, subst}
 use mathlib.Core.Bool.{Bool, true, false, not, _&&_, false≢true}
 use mathlib.Core.List.{List, [], _∷_}
 use Prim.Native.Nat.{ℕ, suc, _+_, _*_, _%_, _≤_, _<_, _^_}
-use native.Mathlib.Nat.{pow-zero, pow-suc, pow-succ', mul-one, mul-assoc, add-zero, mul-le-mul-left, mod-lt, pow-le-pow-right, lt-of-lt-of-le}
+use native.Mathlib.Nat.{pow-zero, pow-suc, pow-succ', mul-one, mul-assoc}
+use native.Mathlib.Nat.{add-zero, mul-le-mul-left, mod-lt, pow-le-pow-right, lt-of-lt-of-le}
 use native.Mathlib.Numerals.{add-one}
 use native.Mathlib.Omega.{arith}
 use lib.Dec.{eqb, leb, lit<, lit≤}
@@ -14,7 +16,8 @@ use Rattle.lines.specs.declared.digits.Digits.{Digits}
 use Rattle.lines.specs.Digits.{valueOf, push, pushAll, nothingYet, readIn, noDigits, leads, hexOf, countOf}
 use Rattle.lines.specs.Fields.{span}
 use Rattle.lines.specs.Reading.{spells}
-use Rattle.lines.proofs.Flags.{and-left, and-right, chosen}
+use Rattle.numbers.proofs.OnePass.{and-left, and-right}
+use Rattle.lines.proofs.Flags.{chosen}
 
 module _ (s : List ℕ) (i : ℕ) (h : i < length s) where
   from-on : drop i s ≡ getD s i 0 ∷ drop (i + 1) s
@@ -33,7 +36,8 @@ module _ (s : List ℕ) (i : ℕ) (h : i < length s) where
   span-step sep n = ap (span sep) from-on ∙ simp (ne-eqb _ sep n, add-one)
 
   -- one byte of a word
-  pub spells-step : (t : Bool) (text : List ℕ) → spells t i (drop i s) text ≡ spells (t && eqb (getD text i 0) (getD s i 0)) (i + 1) (drop (i + 1) s) text
+  pub spells-step : (t : Bool) (text : List ℕ) → spells t i (drop i s) text ≡ spells (t && eqb (getD text i 0) (getD s i 0)) (i + 1)
+      (drop (i + 1) s) text
   spells-step t text = ap (λ (ws : List ℕ). spells t i ws text) from-on ∙ rw (add-one i)
 
 pub span-end : (s : List ℕ) (i : ℕ) → length s ≤ i → (sep : ℕ) → span sep (drop i s) ≡ 0
@@ -54,22 +58,43 @@ passed s sep i j e h t =
     regroup a b g = omega arith
 
 pub eight-passed : (s : List ℕ) (at sep : ℕ) → at + 8 ≤ length s
-    → (apart s at sep && apart s (at + 1) sep && apart s (at + 2) sep && apart s (at + 3) sep && apart s (at + 4) sep && apart s (at + 5) sep && apart s (at + 6) sep && apart s (at + 7) sep) ≡ true
+    → (apart s at sep && apart s (at + 1) sep && apart s (at + 2) sep && apart s (at + 3) sep && apart s (at + 4) sep
+    && apart s (at + 5) sep && apart s (at + 6) sep && apart s (at + 7) sep) ≡ true
     → at + 8 + span sep (drop (at + 8) s) ≡ at + span sep (drop at s)
 eight-passed s at sep h t =
-    let on : (i j : ℕ) → j ≡ i + 1 → i < at + 8 → apart s i sep ≡ true → j + span sep (drop j s) ≡ i + span sep (drop i s) = λ i j e l u. passed s sep i j e (lt-of-lt-of-le l h) u in
-    let r7 : apart s (at + 7) sep ≡ true = and-right (apart s at sep && apart s (at + 1) sep && apart s (at + 2) sep && apart s (at + 3) sep && apart s (at + 4) sep && apart s (at + 5) sep && apart s (at + 6) sep) (apart s (at + 7) sep) t in
-    let t7 : (apart s at sep && apart s (at + 1) sep && apart s (at + 2) sep && apart s (at + 3) sep && apart s (at + 4) sep && apart s (at + 5) sep && apart s (at + 6) sep) ≡ true = and-left (apart s at sep && apart s (at + 1) sep && apart s (at + 2) sep && apart s (at + 3) sep && apart s (at + 4) sep && apart s (at + 5) sep && apart s (at + 6) sep) (apart s (at + 7) sep) t in
-    let r6 : apart s (at + 6) sep ≡ true = and-right (apart s at sep && apart s (at + 1) sep && apart s (at + 2) sep && apart s (at + 3) sep && apart s (at + 4) sep && apart s (at + 5) sep) (apart s (at + 6) sep) t7 in
-    let t6 : (apart s at sep && apart s (at + 1) sep && apart s (at + 2) sep && apart s (at + 3) sep && apart s (at + 4) sep && apart s (at + 5) sep) ≡ true = and-left (apart s at sep && apart s (at + 1) sep && apart s (at + 2) sep && apart s (at + 3) sep && apart s (at + 4) sep && apart s (at + 5) sep) (apart s (at + 6) sep) t7 in
-    let r5 : apart s (at + 5) sep ≡ true = and-right (apart s at sep && apart s (at + 1) sep && apart s (at + 2) sep && apart s (at + 3) sep && apart s (at + 4) sep) (apart s (at + 5) sep) t6 in
-    let t5 : (apart s at sep && apart s (at + 1) sep && apart s (at + 2) sep && apart s (at + 3) sep && apart s (at + 4) sep) ≡ true = and-left (apart s at sep && apart s (at + 1) sep && apart s (at + 2) sep && apart s (at + 3) sep && apart s (at + 4) sep) (apart s (at + 5) sep) t6 in
-    let r4 : apart s (at + 4) sep ≡ true = and-right (apart s at sep && apart s (at + 1) sep && apart s (at + 2) sep && apart s (at + 3) sep) (apart s (at + 4) sep) t5 in
-    let t4 : (apart s at sep && apart s (at + 1) sep && apart s (at + 2) sep && apart s (at + 3) sep) ≡ true = and-left (apart s at sep && apart s (at + 1) sep && apart s (at + 2) sep && apart s (at + 3) sep) (apart s (at + 4) sep) t5 in
-    let r3 : apart s (at + 3) sep ≡ true = and-right (apart s at sep && apart s (at + 1) sep && apart s (at + 2) sep) (apart s (at + 3) sep) t4 in
-    let t3 : (apart s at sep && apart s (at + 1) sep && apart s (at + 2) sep) ≡ true = and-left (apart s at sep && apart s (at + 1) sep && apart s (at + 2) sep) (apart s (at + 3) sep) t4 in
+    let on : (i j : ℕ) → j ≡ i + 1 → i < at + 8 → apart s i sep ≡ true → j + span sep (drop j s) ≡ i + span sep (drop i s) =
+    λ i j e l u. passed s sep i j e (lt-of-lt-of-le l h) u in
+    let r7 : apart s (at + 7) sep ≡ true =
+    and-right (apart s at sep && apart s (at + 1) sep && apart s (at + 2) sep && apart s (at + 3) sep && apart s (at + 4) sep
+    && apart s (at + 5) sep && apart s (at + 6) sep) (apart s (at + 7) sep) t in
+    let t7 : (apart s at sep && apart s (at + 1) sep && apart s (at + 2) sep && apart s (at + 3) sep && apart s (at + 4) sep
+    && apart s (at + 5) sep && apart s (at + 6) sep) ≡ true = and-left
+    (apart s at sep && apart s (at + 1) sep && apart s (at + 2) sep && apart s (at + 3) sep && apart s (at + 4) sep
+    && apart s (at + 5) sep && apart s (at + 6) sep) (apart s (at + 7) sep) t in
+    let r6 : apart s (at + 6) sep ≡ true =
+    and-right (apart s at sep && apart s (at + 1) sep && apart s (at + 2) sep && apart s (at + 3) sep && apart s (at + 4) sep
+    && apart s (at + 5) sep) (apart s (at + 6) sep) t7 in
+    let t6 : (apart s at sep && apart s (at + 1) sep && apart s (at + 2) sep && apart s (at + 3) sep && apart s (at + 4) sep
+    && apart s (at + 5) sep) ≡ true = and-left
+    (apart s at sep && apart s (at + 1) sep && apart s (at + 2) sep && apart s (at + 3) sep && apart s (at + 4) sep
+    && apart s (at + 5) sep) (apart s (at + 6) sep) t7 in
+    let r5 : apart s (at + 5) sep ≡ true =
+    and-right (apart s at sep && apart s (at + 1) sep && apart s (at + 2) sep && apart s (at + 3) sep && apart s (at + 4) sep)
+    (apart s (at + 5) sep) t6 in
+    let t5 : (apart s at sep && apart s (at + 1) sep && apart s (at + 2) sep && apart s (at + 3) sep && apart s (at + 4) sep) ≡ true =
+    and-left (apart s at sep && apart s (at + 1) sep && apart s (at + 2) sep && apart s (at + 3) sep && apart s (at + 4) sep)
+    (apart s (at + 5) sep) t6 in
+    let r4 : apart s (at + 4) sep ≡ true =
+    and-right (apart s at sep && apart s (at + 1) sep && apart s (at + 2) sep && apart s (at + 3) sep) (apart s (at + 4) sep) t5 in
+    let t4 : (apart s at sep && apart s (at + 1) sep && apart s (at + 2) sep && apart s (at + 3) sep) ≡ true =
+    and-left (apart s at sep && apart s (at + 1) sep && apart s (at + 2) sep && apart s (at + 3) sep) (apart s (at + 4) sep) t5 in
+    let r3 : apart s (at + 3) sep ≡ true =
+    and-right (apart s at sep && apart s (at + 1) sep && apart s (at + 2) sep) (apart s (at + 3) sep) t4 in
+    let t3 : (apart s at sep && apart s (at + 1) sep && apart s (at + 2) sep) ≡ true =
+    and-left (apart s at sep && apart s (at + 1) sep && apart s (at + 2) sep) (apart s (at + 3) sep) t4 in
     let r2 : apart s (at + 2) sep ≡ true = and-right (apart s at sep && apart s (at + 1) sep) (apart s (at + 2) sep) t3 in
-    let t2 : (apart s at sep && apart s (at + 1) sep) ≡ true = and-left (apart s at sep && apart s (at + 1) sep) (apart s (at + 2) sep) t3 in
+    let t2 : (apart s at sep && apart s (at + 1) sep) ≡ true =
+    and-left (apart s at sep && apart s (at + 1) sep) (apart s (at + 2) sep) t3 in
     let r1 : apart s (at + 1) sep ≡ true = and-right (apart s at sep) (apart s (at + 1) sep) t2 in
     let t1 : (apart s at sep) ≡ true = and-left (apart s at sep) (apart s (at + 1) sep) t2 in
     on (at + 7) (at + 8) (omega arith) (omega arith) r7
@@ -99,7 +124,8 @@ room v k below few =
     let m : 16 ^ k ≤ 16 ^ 15 = pow-le-pow-right (lit< tt) {i = k} {j = 15} (omega arith) in
     omega arith
 
-pub read-below : (base : ℕ) (s : List ℕ) (a : Digits) (k : ℕ) → base ≤ 16 → a .value < 16 ^ k → pushAll base a s .value < 16 ^ (k + length s)
+pub read-below : (base : ℕ) (s : List ℕ) (a : Digits) (k : ℕ) → base ≤ 16 → a .value < 16 ^ k
+    → pushAll base a s .value < 16 ^ (k + length s)
 unfolding pushAll
 read-below base [] a k small below = rw add-zero below
 read-below base (b ∷ s) a k small below =
@@ -112,11 +138,13 @@ unfolding push
 push-ten-below a b m h = omega arith
 
 -- k bytes read as decimal digits: each counts at most 15
-pub read-ten-below : (s : List ℕ) (a : Digits) (m : ℕ) → 9 * a .value + 15 ≤ 15 * m → 9 * pushAll 10 a s .value + 15 ≤ 15 * (m * 10 ^ length s)
+pub read-ten-below : (s : List ℕ) (a : Digits) (m : ℕ) → 9 * a .value + 15 ≤ 15 * m
+    → 9 * pushAll 10 a s .value + 15 ≤ 15 * (m * 10 ^ length s)
 unfolding pushAll
 read-ten-below [] a m h = rw (pow-zero, mul-one) h
 read-ten-below (b ∷ s) a m h =
-    let e : m * 10 * 10 ^ length s ≡ m * 10 ^ suc (length s) = mul-assoc m 10 (10 ^ length s) ∙ ap (λ (p : ℕ). m * p) (sym (pow-succ' 10 (length s))) in
+    let e : m * 10 * 10 ^ length s ≡ m * 10 ^ suc (length s) =
+    mul-assoc m 10 (10 ^ length s) ∙ ap (λ (p : ℕ). m * p) (sym (pow-succ' 10 (length s))) in
     subst (λ (n : ℕ). 9 * pushAll 10 (push 10 a b) s .value + 15 ≤ 15 * n) e
     (read-ten-below s (push 10 a b) (m * 10) (push-ten-below a b m h))
 
@@ -136,7 +164,8 @@ pub count-fits : (limit : ℕ) (s : List ℕ) → countOf limit s .value < 2 ^ 3
 unfolding countOf
 count-fits limit s =
     let n = length s in
-    chosen (λ (d : Digits). d .value < 2 ^ 32) (leb 1 n && leb n limit && leb n 9) (record { good = readIn 10 s .good && leads s; value = readIn 10 s .value }) noDigits
+    chosen (λ (d : Digits). d .value < 2 ^ 32) (leb 1 n && leb n limit && leb n 9)
+    (record { good = readIn 10 s .good && leads s; value = readIn 10 s .value }) noDigits
     (λ e.
     let few : n ≤ 9 = leb-true n 9 (and-right (leb 1 n && leb n limit) (leb n 9) e) in
     let most : 10 ^ n ≤ 10 ^ 9 = pow-le-pow-right (lit< tt) {i = n} {j = 9} few in

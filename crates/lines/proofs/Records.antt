@@ -10,7 +10,7 @@ use borrow.Author.Tests.{eq-eqb, eqb-true}
 use Rattle.lines.specs.declared.record.Walk.{Walk}
 use Rattle.lines.specs.declared.record.Asked.{Asked}
 use Rattle.lines.specs.declared.record.Asked.the-variants.{Record, NoRecord}
-use Rattle.lines.specs.Digits.{choose}
+use Rattle.numbers.specs.Told.{choose}
 use Rattle.lines.specs.Fields.{AreBits}
 use Rattle.lines.specs.Parts.{tabbeds, allGood, bitsOf}
 use Rattle.lines.specs.Record.{walkLine, walkOf, recordOf}
@@ -26,7 +26,8 @@ pub record-back : (ps : List ℕ) → length ps ≡ 7 → AreBits ps → recordO
 unfolding recordOf
 record-back ps seven bits =
     let long : length (87 ∷ each ps) ≡ 64 = omega (arith, length-each ps) in
-    let was = subst (λ (k : ℕ). (allGood true (tabbeds k (each ps)) ≡ true) × (bitsOf (tabbeds k (each ps)) ≡ ps)) seven (rows-back ps true bits) in
+    let was = subst (λ (k : ℕ). (allGood true (tabbeds k (each ps)) ≡ true) × (bitsOf (tabbeds k (each ps)) ≡ ps)) seven
+    (rows-back ps true bits) in
     rw (line-of ps, eq-eqb (length (87 ∷ each ps)) 64 long, was .0, was .1)
 
 -- what a record was read from
@@ -46,7 +47,8 @@ unfolding recordOf
 record-exact s w =
     let fs = tabbeds 7 (drop 1 s) in
     let t = eqb (getD s 0 0) 87 in
-    chosen (λ (a : Asked). a ≡ Record w → ReadFrom s w) (eqb (length s) 64) (choose (allGood t fs) (Record (walkOf (bitsOf fs))) NoRecord) NoRecord
+    chosen (λ (a : Asked). a ≡ Record w → ReadFrom s w) (eqb (length s) 64) (choose (allGood t fs) (Record (walkOf (bitsOf fs))) NoRecord)
+    NoRecord
     (λ long.
     let l : length s ≡ 64 = eqb-true (length s) 64 long in
     chosen (λ (a : Asked). a ≡ Record w → ReadFrom s w) (allGood t fs) (Record (walkOf (bitsOf fs))) NoRecord

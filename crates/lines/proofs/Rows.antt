@@ -13,7 +13,7 @@ use Rattle.lines.specs.declared.fields.Field.{Field}
 use Rattle.lines.specs.Digits.{hex, hexOf}
 use Rattle.lines.specs.Fields.{parted, AreBits}
 use Rattle.lines.specs.Parts.{tabbed, tabbeds, allGood, bitsOf}
-use Rattle.lines.proofs.Flags.{and-left, and-right}
+use Rattle.numbers.proofs.OnePass.{and-left, and-right}
 use Rattle.lines.proofs.Numerals.{length-hex}
 use Rattle.lines.proofs.Exact.{hex-back, hex-exact, all-good}
 
@@ -40,7 +40,8 @@ module _ (p : ℕ) (rest : List ℕ) where
   drop-field : drop 8 (hex p ++ rest) ≡ rest
   drop-field = drop-at (hex p) rest 8 (length-hex p)
 
-pub rows-back : (ps : List ℕ) (t : Bool) → AreBits ps → (allGood t (tabbeds (length ps) (each ps)) ≡ t) × (bitsOf (tabbeds (length ps) (each ps)) ≡ ps)
+pub rows-back : (ps : List ℕ) (t : Bool) → AreBits ps → (allGood t (tabbeds (length ps) (each ps)) ≡ t)
+    × (bitsOf (tabbeds (length ps) (each ps)) ≡ ps)
 unfolding tabbeds allGood bitsOf
 rows-back [] t h = (refl, refl)
 rows-back (p ∷ ps) t h =
@@ -62,14 +63,16 @@ empty : (s : List ℕ) → length s ≡ 0 → s ≡ []
 empty [] e = refl
 empty (b ∷ s) e = absurd (omega arith)
 
-pub rows-exact : (k : ℕ) (t : Bool) (s : List ℕ) → length s ≡ 9 * k → allGood t (tabbeds k s) ≡ true → (t ≡ true) × (s ≡ each (bitsOf (tabbeds k s))) × AreBits (bitsOf (tabbeds k s))
+pub rows-exact : (k : ℕ) (t : Bool) (s : List ℕ) → length s ≡ 9 * k → allGood t (tabbeds k s) ≡ true
+    → (t ≡ true) × (s ≡ each (bitsOf (tabbeds k s))) × AreBits (bitsOf (tabbeds k s))
 unfolding tabbeds allGood bitsOf
 rows-exact zero t s e good = (good, empty s (omega arith), tt)
 rows-exact (suc k) t s e good =
     let was = rows-exact k (t && tabbed s .good) (drop 9 s) (omega (arith, length-drop 9 s)) good in
     let one = tabbed-exact s (and-right t (tabbed s .good) (was .0)) in (
       and-left t (tabbed s .good) (was .0),
-      sym (take-append-drop 9 s) ∙ ap (λ (l : List ℕ). l ++ drop 9 s) (one .0) ∙ ap (λ (l : List ℕ). (9 ∷ hex (tabbed s .bits)) ++ l) (was .1),
+      sym (take-append-drop 9 s) ∙ ap (λ (l : List ℕ). l ++ drop 9 s) (one .0)
+          ∙ ap (λ (l : List ℕ). (9 ∷ hex (tabbed s .bits)) ++ l) (was .1),
       (one .1, was .2),
     )
 

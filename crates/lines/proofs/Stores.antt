@@ -39,7 +39,8 @@ last-stored-first l i a j b e =
 pub front-stored : (l : List ℕ) (i : ℕ) (a : List ℕ) → i + length a ≤ length l → take (i + length a) (sets l i a) ≡ take i l ++ a
 front-stored l i a h =
     ap (take (i + length a)) (sets-eq a l i h)
-    ∙ take-at (take i l ++ a) (drop (i + length a) l) (i + length a) (length-append (take i l) a ∙ ap (λ (k : ℕ). k + length a) (length-take-le i l (omega arith)))
+    ∙ take-at (take i l ++ a) (drop (i + length a) l) (i + length a)
+    (length-append (take i l) a ∙ ap (λ (k : ℕ). k + length a) (length-take-le i l (omega arith)))
 
 -- two texts, one stored behind the other
 pub stored-more : {l l′ l″ : List ℕ} {at r r′ : ℕ} {a b : List ℕ} → Stored l at a r l′ → Stored l′ r b r′ l″ → Stored l at (a ++ b) r′ l″

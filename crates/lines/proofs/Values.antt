@@ -1,4 +1,5 @@
--- A digit's byte and its value: each is the other's inverse. And a list is built from the left, so what holds of a list holds of it with a byte behind it.
+-- A digit's byte and its value: each is the other's inverse. And a list is built from the left, so what holds of a list holds of it with a
+-- byte behind it.
 use mathlib.Core.Path.{_≡_, refl, ap, _∙_, sym, subst}
 use mathlib.Core.Bool.{Bool, true, false, _&&_}
 use mathlib.Core.List.{List, [], _∷_, _++_, append-nil, append-assoc}
@@ -7,8 +8,10 @@ use Prim.Native.Nat.{ℕ, _+_, _-_, _≤_, _<_}
 use native.Mathlib.Omega.{arith}
 use lib.Dec.{leb, ltb}
 use borrow.Author.Tests.{lt-ltb, le-ltb, le-leb, lt-leb, leb-true}
-use Rattle.lines.specs.Digits.{choose, digit, valueOf}
-use Rattle.lines.proofs.Flags.{and-left, and-right, lt-or-le, chosen}
+use Rattle.numbers.specs.Told.{choose}
+use Rattle.lines.specs.Digits.{digit, valueOf}
+use Rattle.numbers.proofs.OnePass.{and-left, and-right}
+use Rattle.lines.proofs.Flags.{lt-or-le, chosen}
 
 pub value-of-digit : (d : ℕ) → d < 16 → valueOf (digit d) ≡ d
 unfolding digit valueOf
@@ -16,7 +19,13 @@ value-of-digit d h =
     ⊎-elim
     (λ (low : d < 10). simp (lt-ltb d 10 low, le-leb 48 (48 + d) (omega arith), le-leb (48 + d) 57 (omega arith)) (omega arith))
     (λ (high : 10 ≤ d).
-    simp (le-ltb d 10 high, le-leb 48 (87 + d) (omega arith), lt-leb (87 + d) 57 (omega arith), le-leb 97 (87 + d) (omega arith), le-leb (87 + d) 102 (omega arith)) (omega arith))
+    simp (
+      le-ltb d 10 high,
+      le-leb 48 (87 + d) (omega arith),
+      lt-leb (87 + d) 57 (omega arith),
+      le-leb 97 (87 + d) (omega arith),
+      le-leb (87 + d) 102 (omega arith),
+    ) (omega arith))
     (lt-or-le d 10)
 
 pub digit-of-value : (b : ℕ) → valueOf b < 16 → digit (valueOf b) ≡ b

@@ -5,11 +5,8 @@ use mathlib.Core.Bool.{Bool, true, false, _&&_, _||_, not}
 use mathlib.Core.List.{List, [], _∷_, _++_}
 use lib.Dec.{eqb, leb, ltb}
 use lib.ListN.{length, getD}
+use Rattle.numbers.specs.Told.{choose}
 use Rattle.lines.specs.declared.digits.Digits.{Digits}
-
-abbrev pub choose : {A : Type 0} → Bool → A → A → A
-choose true x y = x
-choose false x y = y
 
 -- the byte of a digit's value: 0 to 9, then a to f
 unfoldable pub digit : ℕ → ℕ

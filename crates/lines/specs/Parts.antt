@@ -4,7 +4,8 @@ use mathlib.Core.Bool.{Bool, true, false, _&&_}
 use mathlib.Core.List.{List, [], _∷_}
 use lib.Dec.{eqb, ltb}
 use lib.ListN.{length, getD, take, drop}
-use Rattle.lines.specs.Digits.{choose, hexOf, countOf}
+use Rattle.numbers.specs.Told.{choose}
+use Rattle.lines.specs.Digits.{hexOf, countOf}
 use Rattle.lines.specs.Fields.{tab}
 use Rattle.lines.specs.declared.fields.Field.{Field}
 use Rattle.lines.specs.declared.fields.Three.{Three}

@@ -5,7 +5,8 @@ use mathlib.Core.Bool.{Bool, true, _&&_}
 use mathlib.Core.List.{List, [], _∷_, _++_}
 use lib.Dec.{eqb, ltb}
 use lib.ListN.{length, getD, take, drop}
-use Rattle.lines.specs.Digits.{choose, countOf}
+use Rattle.numbers.specs.Told.{choose}
+use Rattle.lines.specs.Digits.{countOf}
 use Rattle.lines.specs.Fields.{tab}
 use Rattle.lines.specs.Parts.{tabbeds, allGood, bitsOf, noField, shortOf}
 use Rattle.lines.specs.Lines.{walkWord}

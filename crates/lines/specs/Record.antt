@@ -9,7 +9,8 @@ use lib.ListN.{length, getD, drop}
 use Rattle.numbers.specs.Patterns.{patternOf}
 use Rattle.numbers.specs.declared.patterns.Pattern.{Pattern}
 use Rattle.numbers.specs.declared.patterns.Pattern.the-variants.{Bits, NotANumber}
-use Rattle.lines.specs.Digits.{choose, hex}
+use Rattle.numbers.specs.Told.{choose}
+use Rattle.lines.specs.Digits.{hex}
 use Rattle.lines.specs.Fields.{tab, parted}
 use Rattle.lines.specs.Parts.{tabbeds, allGood, bitsOf}
 use Rattle.lines.specs.declared.fields.Three.{Three}

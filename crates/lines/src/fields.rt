@@ -23,7 +23,8 @@ pub struct Three {
 
 // Whether eight bytes follow of which none is the separator.
 fn eight_clear(s: &[u8], at: usize, separator: u8) -> bool
-    ensures { λ r. ⌜ (r ≡ true → (at + 8 ≤ length (now (s .entry))) × (fieldEnd separator (now (s .entry)) (at + 8) ≡ fieldEnd separator (now (s .entry)) at)) ⌝ }
+    ensures { λ r. ⌜ (r ≡ true → (at + 8 ≤ length (now (s .entry)))
+        × (fieldEnd separator (now (s .entry)) (at + 8) ≡ fieldEnd separator (now (s .entry)) at)) ⌝ }
 {
     let n = s.len();
     if n < 8 {

@@ -7,7 +7,7 @@ ghost use mathlib.Core.Path.{_≡_};
 ghost use mathlib.Core.List.{[]};
 ghost use Prim.Native.Nat.{_+_, _≤_};
 ghost use lib.ListN.{length, getD};
-ghost use Rattle.lines.specs.Digits.{choose};
+ghost use Rattle.numbers.specs.Told.{choose};
 ghost use Rattle.lines.specs.Reading.{named, headerOf, moveOf, lineOf};
 ghost use Rattle.lines.specs.Stored.{Stored};
 ghost use Rattle.lines.specs.Lines.{written, ended, lettered, hasRoom};

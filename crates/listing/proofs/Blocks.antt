@@ -18,7 +18,7 @@ use Rattle.walks.specs.Answers.{walkRefusal}
 use Rattle.walks.proofs.Aim.{Fit}
 use Rattle.walks.proofs.Ends.{let-in-ends}
 use Rattle.walks.proofs.Table.{at-most-24577}
-use Rattle.lines.specs.Digits.{choose}
+use Rattle.numbers.specs.Told.{choose}
 use Rattle.lines.specs.Stored.{Stored}
 use Rattle.lines.specs.Lines.{written, hasRoom}
 use Rattle.lines.specs.declared.listed.Line.{Line}
@@ -53,7 +53,8 @@ nowhere-left refused d = at-target (ofBits binary32 0) nowhere refused 0 d nowhe
 
 -- elsewhere the line of the next step comes first
 elsewhere : (m : Float) (t : Point) (refused k d : ℕ) (l : Point) → same l t ≡ false
-    → left m t refused k (suc d) l ≡ written (step (k + 1) (pointOf (moveTowards l t m))) ++ left m t refused (k + 1) d (pointOf (moveTowards l t m))
+    → left m t refused k (suc d) l ≡ written (step (k + 1) (pointOf (moveTowards l t m))) ++ left m t refused (k + 1) d
+    (pointOf (moveTowards l t m))
 unfolding left
 elsewhere m t refused k d l e = rw e
 
@@ -61,7 +62,8 @@ elsewhere m t refused k d l e = rw e
 module _ (m : Float) (s t : Point) (n : ℕ) (w : Walk m s t n) where
   at-end : (j d : ℕ) → j ≡ n → left m t 0 j d (pointAfter m s t j) ≡ written (Arrived n)
   at-end j d e =
-      at-target m t 0 j d (pointAfter m s t j) (is-true (same (pointAfter m s t j) t) (subst (λ (k : ℕ). T (same (pointAfter m s t k) t)) (sym e) (w .arrives)))
+      at-target m t 0 j d (pointAfter m s t j)
+      (is-true (same (pointAfter m s t j) t) (subst (λ (k : ℕ). T (same (pointAfter m s t k) t)) (sym e) (w .arrives)))
       ∙ ap (λ (k : ℕ). written (Arrived k)) e
 
   left-walk : (i j d : ℕ) → j + i ≡ n → i ≤ d → left m t 0 j d (pointAfter m s t j) ≡ steps m s t j i ++ written (Arrived n)
@@ -155,7 +157,9 @@ part-more {l} {l′} {l″} {at} {k} {k′} {whole} r q x p going room is line s
       stored = stored-more (p .stored) (stored-as (ap (λ (b : Bool). choose b (written x) []) room) s);
       joins =
           p .joins
-          ∙ ap (λ (u : List ℕ). p .text ++ u) (next-line r going ∙ sym (ap (λ (n : Rest). written (lineOf n) ++ textOf n) is) ∙ sym (ap (λ (y : Line). written y ++ textOf q) line))
+          ∙ ap (λ (u : List ℕ). p .text ++ u)
+          (next-line r going ∙ sym (ap (λ (n : Rest). written (lineOf n) ++ textOf n) is)
+          ∙ sym (ap (λ (y : Line). written y ++ textOf q) line))
           ∙ sym (append-assoc (p .text) (written x) (textOf q));
     }
 
@@ -169,7 +173,8 @@ given-walk m s t Fm Fs Ft e =
     let w = let-in-ends m s t Fm Fs Ft e in
     (w .0, rw e (walk-left m s t (w .0) (w .1) (at-most-24577 m s t Fm Fs Ft e (w .0) (w .1))), λ z. w .1)
 
-refused-walk : (m : Float) (s t : Point) (n : ℕ) (text : List ℕ) → walkRefusal m s t ≡ n → (n ≡ 0 → ⊥) → text ≡ written (endLine 0 n) → WalkPrints m s t text
+refused-walk : (m : Float) (s t : Point) (n : ℕ) (text : List ℕ) → walkRefusal m s t ≡ n → (n ≡ 0 → ⊥) → text ≡ written (endLine 0 n)
+    → WalkPrints m s t text
 refused-walk m s t n text r some e =
     let b : eqb n 0 ≡ false = ne-eqb n 0 some in
     (0, rw (r, b) (e ∙ ap (λ (a : Bool). written (choose a (Arrived 0) (Refused n))) b), λ z. absurd (some (sym r ∙ z)))
@@ -182,7 +187,8 @@ module _ (m : Float) (s t s′ t′ : Point) (es : s′ ≡ s) (et : t′ ≡ t)
   pub walk-printed : Fit m → Each Fit s′ → Each Fit t′ → walkRefusal m s′ t′ ≡ 0 → WalkPrints m s t (textOf (begins m s′ t′))
   walk-printed Fm Fs Ft e = same-walk (textOf (begins m s′ t′)) (given-walk m s′ t′ Fm Fs Ft e)
 
-  pub refusal-printed : (n : ℕ) (text : List ℕ) → walkRefusal m s′ t′ ≡ n → (n ≡ 0 → ⊥) → text ≡ written (endLine 0 n) → WalkPrints m s t text
+  pub refusal-printed : (n : ℕ) (text : List ℕ) → walkRefusal m s′ t′ ≡ n → (n ≡ 0 → ⊥) → text ≡ written (endLine 0 n)
+      → WalkPrints m s t text
   refusal-printed n text r some e = same-walk text (refused-walk m s′ t′ n text r some e)
 
 -- ---- parts written one after the other: with nothing left, they join to the block
@@ -190,11 +196,13 @@ pub done-text : (r : Rest) → r .done ≡ true → textOf r ≡ []
 unfolding textOf
 done-text r e = rw e
 
-pub parts-join : {l l′ k k′ : List ℕ} {at at′ next next′ : ℕ} {whole rest rest′ : List ℕ} (p : Part l at whole next rest l′) (q : Part k at′ rest next′ rest′ k′) → whole ≡ (p .text ++ q .text) ++ rest′
+pub parts-join : {l l′ k k′ : List ℕ} {at at′ next next′ : ℕ} {whole rest rest′ : List ℕ} (p : Part l at whole next rest l′)
+    (q : Part k at′ rest next′ rest′ k′) → whole ≡ (p .text ++ q .text) ++ rest′
 parts-join {rest′ = rest′} p q = p .joins ∙ ap (λ (u : List ℕ). p .text ++ u) (q .joins) ∙ sym (append-assoc (p .text) (q .text) rest′)
 
 -- where a block is not done and there is room, the next part is not empty: filling from the front of a buffer of 40 bytes or more goes on
-pub part-goes-on : {l l′ : List ℕ} {at next : ℕ} {whole rest : List ℕ} (d : Bool) → Part l at whole next rest l′ → d ≡ false → (not d && hasRoom l′ next) ≡ false → at + 40 ≤ length l′ → at < next
+pub part-goes-on : {l l′ : List ℕ} {at next : ℕ} {whole rest : List ℕ} (d : Bool) → Part l at whole next rest l′ → d ≡ false
+    → (not d && hasRoom l′ next) ≡ false → at + 40 ≤ length l′ → at < next
 part-goes-on {l} {l′} {at} {next} d p going stop room =
     let full : leb (next + 40) (length l′) ≡ false = subst (λ (b : Bool). (not b && hasRoom l′ next) ≡ false) going stop in
     let h : length l′ < next + 40 = leb-false (next + 40) (length l′) full in

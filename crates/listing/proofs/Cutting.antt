@@ -11,7 +11,7 @@ use native.Mathlib.Numerals.{add-one}
 use lib.ListN.{length, getD, take, set, length-append, length-take}
 use lib.Seq.{take-all, take-suc, take-suc-set}
 use borrow.Author.Tests.{le-leb, lt-leb, leb-true, leb-false, ne-eqb, eqb-true, ltb-false}
-use Rattle.lines.specs.Digits.{choose}
+use Rattle.numbers.specs.Told.{choose}
 use Rattle.lines.specs.Fields.{newline, span}
 use Rattle.lines.specs.Record.{recordOf}
 use Rattle.lines.specs.declared.record.Asked.{Asked}
@@ -54,10 +54,18 @@ module _ (row : List ℕ) (len n : ℕ) (full : length row ≡ 128) (is : n ≡ 
   length-kept = length-take len row ∙ omega arith
 
 -- one byte more behind those that are kept
-pub copied-more : (row row₀ s : List ℕ) (n i : ℕ) → n + i < length row → i < length s → take (n + i) row ≡ take n row₀ ++ take i s → take (n + (i + 1)) (set row (n + i) (getD s i 0)) ≡ take n row₀ ++ take (i + 1) s
+pub copied-more : (row row₀ s : List ℕ) (n i : ℕ) → n + i < length row → i < length s → take (n + i) row ≡ take n row₀ ++ take i s
+    → take (n + (i + 1)) (set row (n + i) (getD s i 0)) ≡ take n row₀ ++ take (i + 1) s
 copied-more row row₀ s n i room more was =
     let e : n + (i + 1) ≡ suc (n + i) = omega arith in
-    rw (e, add-one i, take-suc-set row (n + i) (getD s i 0) room, take-suc s i 0 more, was, append-assoc (take n row₀) (take i s) (getD s i 0 ∷ []))
+    rw (
+      e,
+      add-one i,
+      take-suc-set row (n + i) (getD s i 0) room,
+      take-suc s i 0 more,
+      was,
+      append-assoc (take n row₀) (take i s) (getD s i 0 ∷ []),
+    )
 
 -- one line, in two parts
 module _ (t a b : List ℕ) where
@@ -76,7 +84,8 @@ module _ (t a b : List ℕ) where
       rw (lt-leb (length t + length a) 128 many, lt-leb (length t + length (a ++ b)) 128 (omega (arith, length-append a b))))
       (short-or-long (length t + length a))
 
-by-kind : (o : Bool) (t a b : List ℕ) → keep (keep (record { overlong = o; text = t }) a) b ≡ keep (record { overlong = o; text = t }) (a ++ b)
+by-kind : (o : Bool) (t a b : List ℕ) → keep (keep (record { overlong = o; text = t }) a) b ≡ keep (record { overlong = o; text = t })
+    (a ++ b)
 unfolding keep
 by-kind true t a b = refl
 by-kind false t a b = two-parts t a b
@@ -92,7 +101,8 @@ pub run-joined : (a b : List ℕ) (h : Held) → runFrom h (a ++ b) ≡ goOn (ru
 unfolding runFrom
 run-joined [] b h = refl
 run-joined (x ∷ a) b h =
-    both-ways (λ (r : Run). goOn r b) (eqb x newline) _ _ (ran h (runFrom fresh a)) (runFrom (keep h (x ∷ [])) a) (ap (ran h) (run-joined a b fresh)) (run-joined a b (keep h (x ∷ [])))
+    both-ways (λ (r : Run). goOn r b) (eqb x newline) _ _ (ran h (runFrom fresh a)) (runFrom (keep h (x ∷ [])) a)
+    (ap (ran h) (run-joined a b fresh)) (run-joined a b (keep h (x ∷ [])))
 
 -- the run over an input keeps each of its lines
 abbrev pub keptLines : Lines → Run
@@ -141,13 +151,15 @@ nothing-kept true n row e = cc
 nothing-kept false zero row e = refl
 nothing-kept false (suc n) row e = let h : suc n ≤ 0 = ltb-false 0 (suc n) e in absurd (omega arith)
 
-pub asks-now : (o : Bool) (n : ℕ) (row s : List ℕ) → (o || ltb 0 n) ≡ false → asks (keep (record { overlong = o; text = take n row }) s) ≡ recordOf s
+pub asks-now : (o : Bool) (n : ℕ) (row s : List ℕ) → (o || ltb 0 n) ≡ false
+    → asks (keep (record { overlong = o; text = take n row }) s) ≡ recordOf s
 asks-now o n row s e = ap (λ (h : Held). asks (keep h s)) (nothing-kept o n row e) ∙ asks-whole s
 
 -- so the lines that the run has kept ask for what the input's lines ask for
 asks-each : (ls : List (List ℕ)) → map asks (map (keep fresh) ls) ≡ map recordOf ls
 asks-each [] = refl
-asks-each (l ∷ ls) = ap (λ (a : Asked). a ∷ map asks (map (keep fresh) ls)) (asks-whole l) ∙ ap (λ (as' : List Asked). recordOf l ∷ as') (asks-each ls)
+asks-each (l ∷ ls) = ap (λ (a : Asked). a ∷ map asks (map (keep fresh) ls)) (asks-whole l)
+    ∙ ap (λ (as' : List Asked). recordOf l ∷ as') (asks-each ls)
 
 pub asked-lines : (s : List ℕ) → map asks (runFrom fresh s .finished) ≡ map recordOf (linesFrom [] s .finished)
 asked-lines s = ap (λ (r : Run). map asks (r .finished)) (run-lines s) ∙ asks-each (linesFrom [] s .finished)

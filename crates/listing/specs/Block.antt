@@ -8,7 +8,7 @@ use lib.Ieee.{Float}
 use Rattle.legs.specs.declared.Point.{Point}
 use Rattle.moves.specs.Distance.{same}
 use Rattle.moves.specs.Moving.{moveTowards, pointOf}
-use Rattle.lines.specs.Digits.{choose}
+use Rattle.numbers.specs.Told.{choose}
 use Rattle.lines.specs.Stored.{Stored}
 use Rattle.lines.specs.Lines.{written}
 use Rattle.lines.specs.declared.listed.Line.{Line}
@@ -28,7 +28,8 @@ mostSteps = 24577
 unfoldable pub movesOn : Point → Point → ℕ → Bool
 movesOn l t k = not (same l t) && ltb k mostSteps
 
--- at most d steps more, from l on, until it is at the target, the first of them the one after k; then the last line: the count, or the number of a refusal
+-- at most d steps more, from l on, until it is at the target, the first of them the one after k; then the last line: the count, or the
+-- number of a refusal
 unfoldable pub left : Float → Point → ℕ → ℕ → ℕ → Point → List ℕ
 left m t refused k zero l = written (endLine k refused)
 left m t refused k (suc d) l =

@@ -4,7 +4,7 @@ use mathlib.Core.Bool.{Bool, true, false, _||_}
 use mathlib.Core.List.{List, [], _∷_, _++_, map}
 use lib.Dec.{eqb, leb, ltb}
 use lib.ListN.{length, take}
-use Rattle.lines.specs.Digits.{choose}
+use Rattle.numbers.specs.Told.{choose}
 use Rattle.lines.specs.Fields.{newline}
 use Rattle.lines.specs.Record.{recordOf}
 use Rattle.lines.specs.declared.record.Asked.{Asked}

@@ -7,7 +7,7 @@ use lib.Ieee.{Float}
 use Rattle.legs.specs.declared.Point.{Point}
 use Rattle.walks.specs.Walk.{pointAfter, Walk}
 use Rattle.walks.specs.Answers.{walkRefusal}
-use Rattle.lines.specs.Digits.{choose}
+use Rattle.numbers.specs.Told.{choose}
 use Rattle.lines.specs.Record.{recordOf, shownBits}
 use Rattle.lines.specs.Lines.{written}
 use Rattle.lines.specs.declared.listed.Line.{Line}

@@ -12,7 +12,7 @@ ghost use mathlib.Core.Bool.{false, not, _&&_};
 ghost use Prim.Native.Nat.{_+_};
 ghost use lib.Dec.{leb};
 ghost use mathlib.Core.List.{[]};
-ghost use Rattle.lines.specs.Digits.{choose};
+ghost use Rattle.numbers.specs.Told.{choose};
 ghost use Rattle.lines.specs.Stored.{Stored};
 ghost use Rattle.lines.specs.Lines.{written, hasRoom};
 ghost use Rattle.lines.specs.declared.listed.Line.the-variants.{Header};
@@ -172,7 +172,8 @@ pub fn header(buf: &mut [u8], at: usize) -> usize
 
 // Lines of the block stored from `at` on, until it is done or the buffer has less than a line's room, 40 bytes.
 pub fn fill(buf: &mut [u8], at: usize, r: Rest) -> Filled
-    ensures { λ f. ⌜ Part (now (buf .entry)) at (textOf r) (f .at) (textOf (f .rest)) (now (buf .exit)) × ((not (f .rest .done) && hasRoom (now (buf .exit)) (f .at)) ≡ false) ⌝ }
+    ensures { λ f. ⌜ Part (now (buf .entry)) at (textOf r) (f .at) (textOf (f .rest)) (now (buf .exit))
+        × ((not (f .rest .done) && hasRoom (now (buf .exit)) (f .at)) ≡ false) ⌝ }
 {
     let mut at = at;
     let mut r = r;

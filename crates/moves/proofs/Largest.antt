@@ -1,4 +1,5 @@
--- The largest of six roots is the root of the largest: the root keeps the order, and of equal roots there is one. So a longest distance takes one root.
+-- The largest of six roots is the root of the largest: the root keeps the order, and of equal roots there is one. So a longest distance
+-- takes one root.
 -- It holds of every float that is not below zero, NaN and infinity included, and no sum of squares is below zero.
 use mathlib.Core.Path.{_≡_, refl, sym, ap, ap₂, _∙_, subst}
 use mathlib.Core.Bool.{Bool, true, false, not, cond}
@@ -15,7 +16,8 @@ use Rattle.numbers.specs.Told.{choose}
 use Rattle.legs.specs.Legs.{Leg, leftFront, rightFront, leftMiddle, rightMiddle, leftRear, rightRear, row, foot}
 use Rattle.legs.specs.declared.Point.{Point}
 use Rattle.legs.specs.declared.Feet.{Feet}
-use Rattle.moves.specs.Distance.{apart², squareSum, horizontalSum, distance, horizontalDistance, largestFrom, largest, longestDistance, maxHorizontalDistance}
+use Rattle.moves.specs.Distance.{apart², squareSum, horizontalSum, distance, horizontalDistance}
+use Rattle.moves.specs.Distance.{largestFrom, largest, longestDistance, maxHorizontalDistance}
 use Rattle.numbers.specs.Finite.{greater}
 use Rattle.units.specs.Units.{unity, hi}
 use Rattle.units.proofs.Values.{plus-part, lo-is, mag-is}
@@ -43,7 +45,9 @@ either-upward false x y p q = q
 
 units-upward : (f : Format) (q k : ℕ) → T (upward (units f false q k))
 unfolding units
-units-upward f q k = either-upward (ltb (q * 2 ^ k) (2 ^ (low f + suc (emax f)))) (odd (suc (prec f)) false q k (low f)) (inf false) (odd-upward (suc (prec f)) q k (low f)) tt
+units-upward f q k =
+    either-upward (ltb (q * 2 ^ k) (2 ^ (low f + suc (emax f)))) (odd (suc (prec f)) false q k (low f)) (inf false)
+    (odd-upward (suc (prec f)) q k (low f)) tt
 
 round-upward : (f : Format) (a c : ℕ) → T (upward (round f false a c))
 round-upward f a c = subst (λ (x : Float). T (upward x)) (sym (round-is f false a c)) (units-upward f _ _)
@@ -74,7 +78,8 @@ add-upward (fin false m e) (fin false n d) p q = round-upward binary32 (m * up e
 own-value : (m : ℕ) (e : ℤ) → T (fits binary32 (fin false m e)) → HasValue (fin false m e) false (hi (fin false m e)) unity
 own-value m e F = (refl, single (fin false m e) tt F .ok .0)
 
-module _ (x y : Float) (a b : ℕ) (F : T (fits binary32 x)) (G : T (fits binary32 y)) (v : HasValue x false a unity) (w : HasValue y false b unity) where
+module _ (x y : Float) (a b : ℕ) (F : T (fits binary32 x)) (G : T (fits binary32 y)) (v : HasValue x false a unity)
+    (w : HasValue y false b unity) where
   -- the order, by the test
   above : lt x y ≡ true → a ≤ b
   above e = less (lt-part binary32 x y a 0 b 0 (plus-part binary32 x a v) (plus-part binary32 y b w) .0 (subst T (sym e) tt))
@@ -83,7 +88,10 @@ module _ (x y : Float) (a b : ℕ) (F : T (fits binary32 x)) (G : T (fits binary
       less h = omega arith
 
   not-above : lt x y ≡ false → b ≤ a
-  not-above e = more (not-lt-part binary32 x y a 0 b 0 (plus-part binary32 x a v) (plus-part binary32 y b w) (subst (λ (c : Bool). T (not c)) (sym e) tt))
+  not-above e =
+      more
+      (not-lt-part binary32 x y a 0 b 0 (plus-part binary32 x a v) (plus-part binary32 y b w)
+      (subst (λ (c : Bool). T (not c)) (sym e) tt))
     where
       more : 0 + b ≤ a + 0 → b ≤ a
       more h = omega arith
@@ -92,17 +100,20 @@ module _ (x y : Float) (a b : ℕ) (F : T (fits binary32 x)) (G : T (fits binary
   level : a ≡ b → x ≡ y
   level e = one-value x y false b F G (subst (λ (c : ℕ). HasValue x false c unity) e v) w
 
-module _ (x y : Float) (a b : ℕ) (F : T (fits binary32 x)) (G : T (fits binary32 y)) (v : HasValue x false a unity) (w : HasValue y false b unity) where
+module _ (x y : Float) (a b : ℕ) (F : T (fits binary32 x)) (G : T (fits binary32 y)) (v : HasValue x false a unity)
+    (w : HasValue y false b unity) where
   root-mono : a ≤ b → rooted x a F v .q ≤ rooted y b G w .q
   root-mono h =
       let r = rooted x a F v in
       let s = rooted y b G w in
       le-trans (le-of-eq (sym (mag-is (squareRoot x) false (r .q) (r .value))))
       (le-trans
-      (root-mag-mono x y F G (lo-is x a 0 (plus-part binary32 x a v)) (lo-is y b 0 (plus-part binary32 y b w)) (le-trans (le-of-eq (mag-is x false a v)) (le-trans h (le-of-eq (sym (mag-is y false b w))))))
+      (root-mag-mono x y F G (lo-is x a 0 (plus-part binary32 x a v)) (lo-is y b 0 (plus-part binary32 y b w))
+      (le-trans (le-of-eq (mag-is x false a v)) (le-trans h (le-of-eq (sym (mag-is y false b w))))))
       (le-of-eq (mag-is (squareRoot y) false (s .q) (s .value))))
 
-module _ (x y : Float) (a b : ℕ) (F : T (fits binary32 x)) (G : T (fits binary32 y)) (v : HasValue x false a unity) (w : HasValue y false b unity) where
+module _ (x y : Float) (a b : ℕ) (F : T (fits binary32 x)) (G : T (fits binary32 y)) (v : HasValue x false a unity)
+    (w : HasValue y false b unity) where
   abbrev r : Rooted (squareRoot x) a
   r = rooted x a F v
 
@@ -159,20 +170,28 @@ two-infs : greater (inf false) (inf false) ≡ inf false
 unfolding lt
 two-infs = refl
 
-pub root-of-greater : (x y : Float) → T (fits binary32 x) → T (fits binary32 y) → T (upward x) → T (upward y) → squareRoot (greater x y) ≡ greater (squareRoot x) (squareRoot y)
-root-of-greater nan y F G p q = ap squareRoot (first-nan y) ∙ root-nan ∙ sym (ap (λ (z : Float). greater z (squareRoot y)) root-nan ∙ first-nan (squareRoot y))
+pub root-of-greater : (x y : Float) → T (fits binary32 x) → T (fits binary32 y) → T (upward x) → T (upward y)
+    → squareRoot (greater x y) ≡ greater (squareRoot x) (squareRoot y)
+root-of-greater nan y F G p q =
+    ap squareRoot (first-nan y) ∙ root-nan ∙ sym (ap (λ (z : Float). greater z (squareRoot y)) root-nan ∙ first-nan (squareRoot y))
 root-of-greater (inf true) y F G p q = absurd p
-root-of-greater (inf false) nan F G p q = ap squareRoot (second-nan (inf false)) ∙ sym (ap (greater (squareRoot (inf false))) root-nan ∙ second-nan (squareRoot (inf false)))
+root-of-greater (inf false) nan F G p q =
+    ap squareRoot (second-nan (inf false)) ∙ sym (ap (greater (squareRoot (inf false))) root-nan ∙ second-nan (squareRoot (inf false)))
 root-of-greater (inf false) (inf true) F G p q = absurd q
-root-of-greater (inf false) (inf false) F G p q = ap squareRoot two-infs ∙ root-inf false ∙ sym (ap₂ greater (root-inf false) (root-inf false) ∙ two-infs)
+root-of-greater (inf false) (inf false) F G p q =
+    ap squareRoot two-infs ∙ root-inf false ∙ sym (ap₂ greater (root-inf false) (root-inf false) ∙ two-infs)
 root-of-greater (inf false) (fin true n d) F G p q = absurd q
 root-of-greater (inf false) (fin false n d) F G p q =
     let w = own-value n d G in
     let s = rooted (fin false n d) (hi (fin false n d)) G w in
     ap squareRoot (inf-above (fin false n d) (hi (fin false n d)) w) ∙ root-inf false
-    ∙ sym (ap (λ (z : Float). greater z (squareRoot (fin false n d))) (root-inf false) ∙ inf-above (squareRoot (fin false n d)) (s .q) (s .value))
+    ∙ sym
+    (ap (λ (z : Float). greater z (squareRoot (fin false n d))) (root-inf false)
+    ∙ inf-above (squareRoot (fin false n d)) (s .q) (s .value))
 root-of-greater (fin true m e) y F G p q = absurd p
-root-of-greater (fin false m e) nan F G p q = ap squareRoot (second-nan (fin false m e)) ∙ sym (ap (greater (squareRoot (fin false m e))) root-nan ∙ second-nan (squareRoot (fin false m e)))
+root-of-greater (fin false m e) nan F G p q =
+    ap squareRoot (second-nan (fin false m e))
+    ∙ sym (ap (greater (squareRoot (fin false m e))) root-nan ∙ second-nan (squareRoot (fin false m e)))
 root-of-greater (fin false m e) (inf true) F G p q = absurd q
 root-of-greater (fin false m e) (inf false) F G p q =
     let v = own-value m e F in
@@ -180,7 +199,8 @@ root-of-greater (fin false m e) (inf false) F G p q =
     ap squareRoot (below-inf (fin false m e) (hi (fin false m e)) v) ∙ root-inf false
     ∙ sym (ap (greater (squareRoot (fin false m e))) (root-inf false) ∙ below-inf (squareRoot (fin false m e)) (r .q) (r .value))
 root-of-greater (fin false m e) (fin true n d) F G p q = absurd q
-root-of-greater (fin false m e) (fin false n d) F G p q = finite-greater (fin false m e) (fin false n d) (hi (fin false m e)) (hi (fin false n d)) F G (own-value m e F) (own-value n d G)
+root-of-greater (fin false m e) (fin false n d) F G p q =
+    finite-greater (fin false m e) (fin false n d) (hi (fin false m e)) (hi (fin false n d)) F G (own-value m e F) (own-value n d G)
 
 -- ---- a row of them
 pub record Rootable (x : Float) : Type 0 where
@@ -205,8 +225,11 @@ root-of-row x p (more {y = y} {zs = zs} q r) =
     root-of-row (greater x y) (greater-rootable x y p q) r
     ∙ ap (λ (w : Float). largestFrom w zs) (root-of-greater x y (p .held) (q .held) (p .from-zero) (q .from-zero))
 
-pub root-of-largest : (g : Leg → Float) → ((l : Leg) → Rootable (g l)) → squareRoot (largest (row g)) ≡ largest (row (λ l. squareRoot (g l)))
-root-of-largest g p = root-of-row (g leftFront) (p leftFront) (more (p rightFront) (more (p leftMiddle) (more (p rightMiddle) (more (p leftRear) (more (p rightRear) none)))))
+pub root-of-largest : (g : Leg → Float) → ((l : Leg) → Rootable (g l))
+    → squareRoot (largest (row g)) ≡ largest (row (λ l. squareRoot (g l)))
+root-of-largest g p =
+    root-of-row (g leftFront) (p leftFront)
+    (more (p rightFront) (more (p leftMiddle) (more (p rightMiddle) (more (p leftRear) (more (p rightRear) none)))))
 
 -- ---- the two sums
 pub square-sum-rootable : (a b : Point) → Rootable (squareSum a b)
@@ -219,7 +242,8 @@ square-sum-rootable a b =
       held = add-fits binary32 (add binary32 x y) z;
       from-zero =
           add-upward (add binary32 x y) z
-          (add-upward x y (square-upward (sub binary32 (b .x) (a .x))) (square-upward (sub binary32 (b .y) (a .y)))) (square-upward (sub binary32 (b .z) (a .z)));
+          (add-upward x y (square-upward (sub binary32 (b .x) (a .x))) (square-upward (sub binary32 (b .y) (a .y))))
+          (square-upward (sub binary32 (b .z) (a .z)));
     }
 
 pub horizontal-sum-rootable : (a b : Point) → Rootable (horizontalSum a b)
@@ -236,6 +260,7 @@ pub longest-is-one-root : (a b : Feet) → squareRoot (largest (row (λ l. squar
 unfolding longestDistance distance
 longest-is-one-root a b = root-of-largest (λ l. squareSum (foot a l) (foot b l)) (λ l. square-sum-rootable (foot a l) (foot b l))
 
-pub horizontal-is-one-root : (a b : Feet) → squareRoot (largest (row (λ l. horizontalSum (foot a l) (foot b l)))) ≡ maxHorizontalDistance a b
+pub horizontal-is-one-root : (a b : Feet)
+    → squareRoot (largest (row (λ l. horizontalSum (foot a l) (foot b l)))) ≡ maxHorizontalDistance a b
 unfolding maxHorizontalDistance horizontalDistance
 horizontal-is-one-root a b = root-of-largest (λ l. horizontalSum (foot a l) (foot b l)) (λ l. horizontal-sum-rootable (foot a l) (foot b l))

@@ -1,8 +1,7 @@
+pub mod OnePass
 pub mod Refusals
 pub mod Largest
 pub mod Squares
 pub mod Steps
 pub mod FootByFoot
 pub mod OneAnswer
-pub mod Examples
-mod OnePass

@@ -10,7 +10,8 @@ use Rattle.legs.specs.Legs.{coordinates, nowhere}
 use Rattle.legs.proofs.OneAnswer.{points-from-values, feet-from-values}
 use Rattle.legs.specs.declared.Point.{Point}
 use Rattle.legs.specs.declared.Feet.{Feet}
-use Rattle.moves.specs.Answers.{toldStep, told, toldFeetStep, toldFeet, ofMovingPoint, ofMovingFeet, toldPointIter, toldFeetIter, toldNextPoint, toldNextFeet}
+use Rattle.moves.specs.Answers.{toldStep, told, toldFeetStep, toldFeet, ofMovingPoint}
+use Rattle.moves.specs.Answers.{ofMovingFeet, toldPointIter, toldFeetIter, toldNextPoint, toldNextFeet}
 use Rattle.moves.specs.Iterators.{movingPoint, movingFeet}
 use Rattle.moves.specs.declared.MoveStep.{MoveStep}
 use Rattle.moves.specs.declared.MoveStep.the-variants.{Moved, Arrived}
@@ -55,12 +56,16 @@ point-from-values p q e = ap (λ (ps : List Point). getD ps 0 nowhere) (points-f
 pub moving-point-from-values : (s r : MovingPoint) → ofMovingPoint s ≡ ofMovingPoint r → s ≡ r
 moving-point-from-values s r e =
     ap (λ (p : Point). movingPoint p (s .target) (s .«max_move»)) (point-from-values (s .last) (r .last) (ap (take 3) e))
-    ∙ ap₂ (λ (p : Point) (x : Float). movingPoint (r .last) p x) (point-from-values (s .target) (r .target) (ap (λ (xs : List Float). take 3 (drop 3 xs)) e)) (ap (λ (xs : List Float). getD xs 6 nan) e)
+    ∙ ap₂ (λ (p : Point) (x : Float). movingPoint (r .last) p x)
+    (point-from-values (s .target) (r .target) (ap (λ (xs : List Float). take 3 (drop 3 xs)) e))
+    (ap (λ (xs : List Float). getD xs 6 nan) e)
 
 pub moving-feet-from-values : (s r : MovingFeet) → ofMovingFeet s ≡ ofMovingFeet r → s ≡ r
 moving-feet-from-values s r e =
     ap (λ (f : Feet). movingFeet f (s .target) (s .«max_move»)) (feet-from-values (s .last) (r .last) (ap (take 18) e))
-    ∙ ap₂ (λ (f : Feet) (x : Float). movingFeet (r .last) f x) (feet-from-values (s .target) (r .target) (ap (λ (xs : List Float). take 18 (drop 18 xs)) e)) (ap (λ (xs : List Float). getD xs 36 nan) e)
+    ∙ ap₂ (λ (f : Feet) (x : Float). movingFeet (r .last) f x)
+    (feet-from-values (s .target) (r .target) (ap (λ (xs : List Float). take 18 (drop 18 xs)) e))
+    (ap (λ (xs : List Float). getD xs 36 nan) e)
 
 -- steps
 pub toldStep-loses-nothing : (a b : MoveStep) → toldStep a ≡ toldStep b → a ≡ b

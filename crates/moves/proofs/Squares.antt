@@ -1,4 +1,5 @@
--- The sum of squares in units. What the door lets in gives a sum within the root's own limit, so a step hands the root nothing that the root's door refuses.
+-- The sum of squares in units. What the door lets in gives a sum within the root's own limit, so a step hands the root nothing that the
+-- root's door refuses.
 use mathlib.Core.Bool.{false, _&&_}
 use Prim.Native.Nat.{ℕ, _+_, _-_, _*_, _^_, _≤_, _<_, zero-le}
 use native.Mathlib.Nat.{le-trans, lt-of-le-of-lt, mul-pos, mul-le-mul, mul-lt-mul-of-pos-right, add-le-add}
@@ -9,7 +10,7 @@ use lib.Ieee.Fits.{and-i, and-l, and-r}
 use lib.Ieee.Exact.{HasValue}
 use lib.Ieee.Scale.{overflow}
 use Rattle.numbers.specs.Door.{permits}
-use Rattle.numbers.specs.Limits.{rootArgument, foot as footLimit}
+use Rattle.numbers.specs.Limits.{rootArgument, footLimit}
 use Rattle.units.specs.Units.{Part, Units, unity, hi, lo, gap, apart, rounded}
 use Rattle.units.proofs.Grid.{cell-le}
 use Rattle.units.proofs.Values.{plus-part}
@@ -60,20 +61,28 @@ abbrev pub all : ℕ → ℕ → ℕ → ℕ
 all x y z = rounded (both x y + sq z) unity
 
 sq-le : (d : ℕ) → d ≤ 2 ^ 155 → sq d ≤ 2 ^ 162
-sq-le d h = cell-le 24 (d * d * unity) (unity * unity) 138 (mul-pos unity-pos unity-pos) (mul-lt-mul-of-pos-right {n = 2 ^ 311} {k = unity} (lt-of-le-of-lt (mul-le-mul h h) (lit< tt)) unity-pos)
+sq-le d h =
+    cell-le 24 (d * d * unity) (unity * unity) 138 (mul-pos unity-pos unity-pos)
+    (mul-lt-mul-of-pos-right {n = 2 ^ 311} {k = unity} (lt-of-le-of-lt (mul-le-mul h h) (lit< tt)) unity-pos)
 
 two-le : (a b : ℕ) → a ≤ 2 ^ 162 → b ≤ 2 ^ 162 → rounded (a + b) unity ≤ 2 ^ 164
-two-le a b h k = cell-le 24 ((a + b) * unity) unity 140 unity-pos (mul-lt-mul-of-pos-right {n = 2 ^ 164} {k = unity} (lt-of-le-of-lt (add-le-add h k) (lit< tt)) unity-pos)
+two-le a b h k =
+    cell-le 24 ((a + b) * unity) unity 140 unity-pos
+    (mul-lt-mul-of-pos-right {n = 2 ^ 164} {k = unity} (lt-of-le-of-lt (add-le-add h k) (lit< tt)) unity-pos)
 
 three-le : (a b : ℕ) → a ≤ 2 ^ 164 → b ≤ 2 ^ 162 → rounded (a + b) unity ≤ 2 ^ 165
-three-le a b h k = cell-le 24 ((a + b) * unity) unity 141 unity-pos (mul-lt-mul-of-pos-right {n = 2 ^ 165} {k = unity} (lt-of-le-of-lt (add-le-add h k) (lit< tt)) unity-pos)
+three-le a b h k =
+    cell-le 24 ((a + b) * unity) unity 141 unity-pos
+    (mul-lt-mul-of-pos-right {n = 2 ^ 165} {k = unity} (lt-of-le-of-lt (add-le-add h k) (lit< tt)) unity-pos)
 
 fine : (k : ℕ) → k ≤ 2 ^ 165 → k < overflow binary32
 fine k h = lt-of-le-of-lt h (lit< tt)
 
-square-value : (t l : Float) → Units t → Units l → apart t l ≤ 18 * unity → HasValue (mul binary32 (sub binary32 t l) (sub binary32 t l)) false (sq (size t l)) unity
+square-value : (t l : Float) → Units t → Units l → apart t l ≤ 18 * unity
+    → HasValue (mul binary32 (sub binary32 t l) (sub binary32 t l)) false (sq (size t l)) unity
 square-value t l ut ul near =
-    sq-value binary32 (sub binary32 t l) (diff (hi t + lo l) (lo t + hi l)) (diff (lo t + hi l) (hi t + lo l)) (diff-part t l (hi t) (lo t) (hi l) (lo l) ut ul near)
+    sq-value binary32 (sub binary32 t l) (diff (hi t + lo l) (lo t + hi l)) (diff (lo t + hi l) (hi t + lo l))
+    (diff-part t l (hi t) (lo t) (hi l) (lo l) ut ul near)
     (fine (sq (size t l)) (le-trans (sq-le (size t l) (size-le t l near)) (lit≤ tt)))
 
 -- the two points are made of units, and no coordinate is more than 18 apart
@@ -103,8 +112,10 @@ module _ (l t : Point) (n : Near l t) where
   pub horizontal-sum-value : HasValue (horizontalSum l t) false (both X Y) unity
   unfolding horizontalSum
   horizontal-sum-value =
-      add-value binary32 (mul binary32 (sub binary32 (t .x) (l .x)) (sub binary32 (t .x) (l .x))) (mul binary32 (sub binary32 (t .y) (l .y)) (sub binary32 (t .y) (l .y))) (sq X) (sq Y)
-      (square-value (t .x) (l .x) (n .to .0) (n .from .0) (n .x)) (square-value (t .y) (l .y) (n .to .1) (n .from .1) (n .y)) (fine (both X Y) (le-trans both-le (lit≤ tt)))
+      add-value binary32 (mul binary32 (sub binary32 (t .x) (l .x)) (sub binary32 (t .x) (l .x)))
+      (mul binary32 (sub binary32 (t .y) (l .y)) (sub binary32 (t .y) (l .y))) (sq X) (sq Y)
+      (square-value (t .x) (l .x) (n .to .0) (n .from .0) (n .x))
+      (square-value (t .y) (l .y) (n .to .1) (n .from .1) (n .y)) (fine (both X Y) (le-trans both-le (lit≤ tt)))
 
   pub square-sum-value : HasValue (squareSum l t) false (all X Y Z) unity
   unfolding squareSum horizontalSum
@@ -124,7 +135,8 @@ root-permits x a v h =
     same : {b : ℕ} → a ≤ b → a + 0 ≤ 0 + b
     same {b} h = omega arith
 
-abbrev Fit : Float → Type 0
+-- the format holds it: every number that the machine has
+abbrev pub Fit : Float → Type 0
 Fit x = T (fits binary32 x)
 
 eighteen : (a b c d u : ℕ) → a ≤ 4 * u → b ≤ 4 * u → c ≤ 4 * u → d ≤ 4 * u → gap (a + d) (b + c) ≤ 18 * u
@@ -134,8 +146,13 @@ module _ (a b : Point) (Fa : Each Fit a) (Fb : Each Fit b) (pa : T (permittedPoi
   each-permitted : (p : Point) → T (permittedPoint footLimit p) → Each (λ x. T (permits footLimit x)) p
   unfolding permittedPoint
   each-permitted p h =
-      let xy = and-l (permits footLimit (p .x) && permits footLimit (p .y)) (permits footLimit (p .z)) h in
-      (and-l (permits footLimit (p .x)) (permits footLimit (p .y)) xy, and-r (permits footLimit (p .x)) (permits footLimit (p .y)) xy, and-r (permits footLimit (p .x) && permits footLimit (p .y)) (permits footLimit (p .z)) h)
+      let xy = and-l (permits footLimit (p .x) && permits footLimit (p .y)) (permits footLimit (p .z)) h in (
+        and-l (permits footLimit (p .x)) (permits footLimit (p .y)) xy,
+        and-r (permits footLimit (p .x))
+            (permits footLimit (p .y)) xy,
+        and-r (permits footLimit (p .x) && permits footLimit (p .y))
+            (permits footLimit (p .z)) h,
+      )
 
   units : (x : Float) → Fit x → T (permits footLimit x) → Units x
   units x F h = permitted footLimit 0 (4 * unity) (4 * unity) 0 foot-ends x F h .single .ok

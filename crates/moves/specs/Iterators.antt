@@ -1,4 +1,5 @@
--- Document 01: "Iterators with `&mut self` and `Option` become a state by value and an enum." "The Rust point iterator never stops, since it
+-- Document 01: "Iterators with `&mut self` and `Option` become a state by value and an enum." "The Rust point iterator never stops,
+-- since it
 -- does not keep the target; the port stops."
 use mathlib.Core.List.{[]}
 use lib.Ieee.{Float}

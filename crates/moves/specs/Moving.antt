@@ -2,7 +2,7 @@
 use mathlib.Core.Bool.{Bool, true, false}
 use lib.Ieee.{Float, binary32, add, sub, mul, div, le}
 use Rattle.numbers.specs.Told.{choose}
-use Rattle.legs.specs.Legs.{foot, feet, some}
+use Rattle.legs.specs.Legs.{Leg, leftFront, rightFront, leftMiddle, rightMiddle, leftRear, rightRear, foot, feet, some}
 use Rattle.legs.specs.declared.Point.{Point}
 use Rattle.legs.specs.declared.Feet.{Feet}
 use Rattle.moves.specs.Distance.{same, distance}
@@ -42,12 +42,25 @@ unfoldable pub hasMoved : MoveStep → Bool
 hasMoved (Moved p) = true
 hasMoved (Arrived p) = false
 
--- "Six feet move as six single ones"; they share one flag
+-- six single steps of one call, in row order
+abbrev pub byLeg : MoveStep → MoveStep → MoveStep → MoveStep → MoveStep → MoveStep → Leg → MoveStep
+byLeg lf rf lm rm lr rr leftFront = lf
+byLeg lf rf lm rm lr rr rightFront = rf
+byLeg lf rf lm rm lr rr leftMiddle = lm
+byLeg lf rf lm rm lr rr rightMiddle = rm
+byLeg lf rf lm rm lr rr leftRear = lr
+byLeg lf rf lm rm lr rr rightRear = rr
+
+-- six steps share one flag: whether one of them moved
+abbrev pub together : (Leg → MoveStep) → FeetStep
+together g =
+    choose (some (λ l. hasMoved (g l)))
+    (FeetMoved (feet (λ l. pointOf (g l))))
+    (FeetArrived (feet (λ l. pointOf (g l))))
+
+-- "Six feet move as six single ones"
 unfoldable pub moveFeetTowards : Feet → Feet → Float → FeetStep
-moveFeetTowards a t m =
-    choose (some (λ l. hasMoved (moveTowards (foot a l) (foot t l) m)))
-    (FeetMoved (feet (λ l. pointOf (moveTowards (foot a l) (foot t l) m))))
-    (FeetArrived (feet (λ l. pointOf (moveTowards (foot a l) (foot t l) m))))
+moveFeetTowards a t m = together (λ l. moveTowards (foot a l) (foot t l) m)
 
 -- the feet of a step, and the shared flag
 unfoldable pub feetOf : FeetStep → Feet

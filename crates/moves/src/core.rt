@@ -8,9 +8,13 @@ use crate::NextPoint;
 use legs::Feet;
 use legs::Point;
 ghost use mathlib.Core.Path.{_≡_};
+ghost use mathlib.Core.List.{[], _∷_};
 ghost use Rattle.numbers.specs.Told.{choose};
-ghost use Rattle.moves.specs.Distance.{same, squareSum, horizontalSum, distance, longestDistance, maxHorizontalDistance};
-ghost use Rattle.moves.specs.Moving.{along, nearer, moveTowards, moveVectorTowards, pointOf, hasMoved, moveFeetTowards};
+ghost use Rattle.roots.specs.Root.{squareRoot};
+ghost use Rattle.moves.specs.Distance.{same, squareSum, horizontalSum, distance};
+ghost use Rattle.moves.specs.Distance.{largest, longestDistance, maxHorizontalDistance};
+ghost use Rattle.moves.specs.Moving.{along, nearer, moveTowards, moveVectorTowards};
+ghost use Rattle.moves.specs.Moving.{pointOf, hasMoved, byLeg, together, moveFeetTowards};
 ghost use Rattle.moves.specs.Iterators.{nextPoint, nextFeet};
 
 // Whether two points are equal in every component, as numbers.
@@ -121,16 +125,17 @@ fn shared(moved: bool, feet: Feet) -> FeetStep
     }
 }
 
-// Six feet move as six single ones.
-pub fn move_feet_towards(last: Feet, target: Feet, max_move: f32) -> FeetStep
-    ensures { λ r. ⌜ r ≡ moveFeetTowards last target «max_move» ⌝ }
+// Six single steps, in row order, as one answer.
+pub fn together(
+    lf: MoveStep,
+    rf: MoveStep,
+    lm: MoveStep,
+    rm: MoveStep,
+    lr: MoveStep,
+    rr: MoveStep,
+) -> FeetStep
+    ensures { λ r. ⌜ r ≡ together (byLeg lf rf lm rm lr rr) ⌝ }
 {
-    let lf = move_towards(last.left_front, target.left_front, max_move);
-    let lm = move_towards(last.left_middle, target.left_middle, max_move);
-    let lr = move_towards(last.left_rear, target.left_rear, max_move);
-    let rf = move_towards(last.right_front, target.right_front, max_move);
-    let rm = move_towards(last.right_middle, target.right_middle, max_move);
-    let rr = move_towards(last.right_rear, target.right_rear, max_move);
     let moved = has_moved(lf)
         | has_moved(rf)
         | has_moved(lm)
@@ -146,6 +151,20 @@ pub fn move_feet_towards(last: Feet, target: Feet, max_move: f32) -> FeetStep
         right_rear: point_of(rr),
     };
     shared(moved, feet)
+}
+
+// Six feet move as six single ones.
+pub fn move_feet_towards(last: Feet, target: Feet, max_move: f32) -> FeetStep
+    ensures { λ r. ⌜ r ≡ moveFeetTowards last target «max_move» ⌝ }
+{
+    together(
+        move_towards(last.left_front, target.left_front, max_move),
+        move_towards(last.right_front, target.right_front, max_move),
+        move_towards(last.left_middle, target.left_middle, max_move),
+        move_towards(last.right_middle, target.right_middle, max_move),
+        move_towards(last.left_rear, target.left_rear, max_move),
+        move_towards(last.right_rear, target.right_rear, max_move),
+    )
 }
 
 // One step more of a point on its way; the state after remembers where it is.
@@ -178,28 +197,41 @@ pub fn next_feet(s: MovingFeet) -> NextFeet
     }
 }
 
-// The largest of the six distances in x, y and z. The largest root is the root of the largest.
+// The largest of six roots, in row order. It is the root of the largest.
+fn largest_root(lf: f32, rf: f32, lm: f32, rm: f32, lr: f32, rr: f32) -> f32
+    ensures { λ r. ⌜ r ≡ squareRoot (largest (lf ∷ rf ∷ lm ∷ rm ∷ lr ∷ rr ∷ [])) ⌝ }
+{
+    let d = numbers::core::max(lf, rf);
+    let d = numbers::core::max(d, lm);
+    let d = numbers::core::max(d, rm);
+    let d = numbers::core::max(d, lr);
+    roots::core::square_root(numbers::core::max(d, rr))
+}
+
+// The largest of the six distances in x, y and z.
 pub fn longest_distance(a: Feet, b: Feet) -> f32
     ensures { λ r. ⌜ r ≡ longestDistance a b ⌝ }
 {
-    let d = square_sum(a.left_front, b.left_front);
-    let d = numbers::core::max(d, square_sum(a.right_front, b.right_front));
-    let d = numbers::core::max(d, square_sum(a.left_middle, b.left_middle));
-    let d = numbers::core::max(d, square_sum(a.right_middle, b.right_middle));
-    let d = numbers::core::max(d, square_sum(a.left_rear, b.left_rear));
-    let d = numbers::core::max(d, square_sum(a.right_rear, b.right_rear));
-    roots::core::square_root(d)
+    largest_root(
+        square_sum(a.left_front, b.left_front),
+        square_sum(a.right_front, b.right_front),
+        square_sum(a.left_middle, b.left_middle),
+        square_sum(a.right_middle, b.right_middle),
+        square_sum(a.left_rear, b.left_rear),
+        square_sum(a.right_rear, b.right_rear),
+    )
 }
 
 // The largest of the six distances in x and y only.
 pub fn max_horizontal_distance(a: Feet, b: Feet) -> f32
     ensures { λ r. ⌜ r ≡ maxHorizontalDistance a b ⌝ }
 {
-    let d = horizontal_sum(a.left_front, b.left_front);
-    let d = numbers::core::max(d, horizontal_sum(a.right_front, b.right_front));
-    let d = numbers::core::max(d, horizontal_sum(a.left_middle, b.left_middle));
-    let d = numbers::core::max(d, horizontal_sum(a.right_middle, b.right_middle));
-    let d = numbers::core::max(d, horizontal_sum(a.left_rear, b.left_rear));
-    let d = numbers::core::max(d, horizontal_sum(a.right_rear, b.right_rear));
-    roots::core::square_root(d)
+    largest_root(
+        horizontal_sum(a.left_front, b.left_front),
+        horizontal_sum(a.right_front, b.right_front),
+        horizontal_sum(a.left_middle, b.left_middle),
+        horizontal_sum(a.right_middle, b.right_middle),
+        horizontal_sum(a.left_rear, b.left_rear),
+        horizontal_sum(a.right_rear, b.right_rear),
+    )
 }

@@ -79,7 +79,7 @@ pub enum NextFeet {
 pub fn move_refused(last: Point, target: Point, max_move: f32) -> u32
     ensures { λ r. ⌜ r ≡ moveRefusal last target «max_move» ⌝ }
 {
-    let foot = numbers::limits::foot();
+    let foot = numbers::limits::foot_limit();
     let longest = numbers::limits::max_move();
     let permitted = legs::core::point_permitted(foot, last)
         & legs::core::point_permitted(foot, target)
@@ -99,7 +99,7 @@ pub fn move_refused(last: Point, target: Point, max_move: f32) -> u32
 pub fn move_feet_refused(last: Feet, target: Feet, max_move: f32) -> u32
     ensures { λ r. ⌜ r ≡ moveFeetRefusal last target «max_move» ⌝ }
 {
-    let foot = numbers::limits::foot();
+    let foot = numbers::limits::foot_limit();
     let longest = numbers::limits::max_move();
     let permitted = legs::core::feet_permitted(foot, last)
         & legs::core::feet_permitted(foot, target)
@@ -215,7 +215,7 @@ impl MovingFeet {
 pub fn longest_refused(a: Feet, b: Feet) -> u32
     ensures { λ r. ⌜ r ≡ longestRefusal a b ⌝ }
 {
-    let limit = numbers::limits::foot();
+    let limit = numbers::limits::foot_limit();
     if legs::core::feet_permitted(limit, a) & legs::core::feet_permitted(limit, b) {
         0
     } else {

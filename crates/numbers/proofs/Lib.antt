@@ -1,3 +1,4 @@
 mod Signs
 pub mod OneAnswer
 pub mod OnePass
+pub mod OneNumber

@@ -1,6 +1,5 @@
 -- Document 01, "Permitted numbers" and "Numbered refusals": the tests of the door, and their order.
 use Prim.Native.Nat.{ℕ}
-use mathlib.Core.Path.{_≡_}
 use mathlib.Core.Bool.{Bool, true, false, _&&_}
 use mathlib.Core.List.{List, [], _∷_}
 use lib.Dec.{eqb}
@@ -20,10 +19,6 @@ within lo hi x = le lo x && le x hi
 
 abbrev pub permits : Limit → Float → Bool
 permits l x = within (l .from) (l .to) x
-
--- both ends are finite, as those of every row of the table are
-abbrev pub FiniteEnds : Limit → Type 0
-FiniteEnds l = (finite (l .from) ≡ true) × (finite (l .to) ≡ true)
 
 -- the refusal's number where the test fails, or where it holds; 0 is no refusal
 abbrev pub unless : Bool → ℕ → ℕ

@@ -14,9 +14,9 @@ unfolding round
 minus n d = round binary32 true n d
 
 -- foot and coxa coordinates: -4 to 4
-unfoldable pub foot : Limit
+unfoldable pub footLimit : Limit
 unfolding over minus
-foot = record { from = minus 4 1; to = over 4 1 }
+footLimit = record { from = minus 4 1; to = over 4 1 }
 
 -- the same, in a walk: -2 to 2
 unfoldable pub walkFoot : Limit

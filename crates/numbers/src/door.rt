@@ -1,8 +1,7 @@
 // The tests of the door. Every one takes every bit pattern.
 ghost use mathlib.Core.Path.{_≡_};
-ghost use mathlib.Core.List.{[], _∷_};
 ghost use Rattle.numbers.specs.Told.{choose};
-ghost use Rattle.numbers.specs.Door.{finite, permits, unless, either, firstOf};
+ghost use Rattle.numbers.specs.Door.{finite, permits, unless};
 
 // Two ends, both permitted.
 pub struct Limit {
@@ -38,21 +37,4 @@ pub fn unless(holds: bool, number: u32) -> u32
     ensures { λ r. ⌜ r ≡ unless holds number ⌝ }
 {
     if holds { 0 } else { number }
-}
-
-// The first of two refusals, in that order; 0 is none.
-pub fn either(first: u32, second: u32) -> u32
-    ensures { λ r. ⌜ r ≡ either first second ⌝ }
-{
-    if first == 0 { second } else { first }
-}
-
-// The first of three refusals: 1 unless all floats are finite, 2 unless all are permitted, or the other.
-pub fn first_of(all_finite: bool, all_permitted: bool, other: u32) -> u32
-    ensures { λ r. ⌜ r ≡ firstOf (unless «all_finite» 1 ∷ unless «all_permitted» 2 ∷ other ∷ []) ⌝ }
-{
-    either(
-        unless(all_finite, 1),
-        either(unless(all_permitted, 2), other),
-    )
 }

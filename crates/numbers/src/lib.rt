@@ -19,11 +19,10 @@ pub enum Answer {
 pub fn absolute(x: f32) -> Answer
     ensures { λ r. ⌜ told r ≡ absoluteTold x ⌝ }
 {
-    let n = door::unless(door::is_finite(x), 1);
-    if n == 0 {
+    if door::is_finite(x) {
         Answer::Value(core::absolute(x))
     } else {
-        Answer::Refused(n)
+        Answer::Refused(1)
     }
 }
 
@@ -31,11 +30,10 @@ pub fn absolute(x: f32) -> Answer
 pub fn min(x: f32, y: f32) -> Answer
     ensures { λ r. ⌜ told r ≡ minTold x y ⌝ }
 {
-    let n = door::unless(door::is_finite(x) & door::is_finite(y), 1);
-    if n == 0 {
+    if door::is_finite(x) & door::is_finite(y) {
         Answer::Value(core::min(x, y))
     } else {
-        Answer::Refused(n)
+        Answer::Refused(1)
     }
 }
 
@@ -43,10 +41,9 @@ pub fn min(x: f32, y: f32) -> Answer
 pub fn max(x: f32, y: f32) -> Answer
     ensures { λ r. ⌜ told r ≡ maxTold x y ⌝ }
 {
-    let n = door::unless(door::is_finite(x) & door::is_finite(y), 1);
-    if n == 0 {
+    if door::is_finite(x) & door::is_finite(y) {
         Answer::Value(core::max(x, y))
     } else {
-        Answer::Refused(n)
+        Answer::Refused(1)
     }
 }

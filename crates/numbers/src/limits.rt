@@ -4,8 +4,8 @@ ghost use mathlib.Core.Path.{_≡_};
 ghost use Rattle.numbers.specs.Limits as rows;
 
 // Foot and coxa coordinates, in metres.
-pub fn foot() -> Limit
-    ensures { λ r. ⌜ r ≡ rows.foot ⌝ }
+pub fn foot_limit() -> Limit
+    ensures { λ r. ⌜ r ≡ rows.footLimit ⌝ }
 {
     Limit {
         from: -4.0,

@@ -2,7 +2,8 @@
 ghost use mathlib.Core.Path.{_≡_};
 ghost use mathlib.Core.Bool.{not};
 ghost use lib.Ieee.{binary32, ofBits, nanBits};
-ghost use Rattle.numbers.specs.Patterns.{patternOf};
+ghost use Rattle.numbers.specs.Answers.{toldPattern};
+ghost use Rattle.numbers.specs.Patterns.{patternTold};
 
 // What a float's bits are. A NaN has none of its own.
 pub enum Pattern {
@@ -30,7 +31,7 @@ pub fn from_pattern(bits: u32) -> f32
 
 // The bit pattern of a float that is no NaN.
 pub fn pattern_of(x: f32) -> Pattern
-    ensures { λ r. ⌜ r ≡ patternOf x ⌝ }
+    ensures { λ r. ⌜ toldPattern r ≡ patternTold x ⌝ }
 {
     if x == x {
         Pattern::Bits(f32::to_bits(x))

@@ -1,5 +1,3 @@
 mod Bits
 mod Together
-pub mod Laws
 pub mod Within
-mod OnePass

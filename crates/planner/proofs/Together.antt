@@ -7,10 +7,16 @@ use Rattle.commands.specs.declared.Tripod.{Tripod}
 use Rattle.commands.specs.declared.Tripod.the-variants.{LRL, RLR}
 use Rattle.commands.specs.declared.MoveCommand.{MoveCommand}
 use Rattle.planner.specs.Turns.{turn}
-use Rattle.planner.specs.Plan.{ahead, back, motionOf, shiftOf, planned}
+use Rattle.planner.specs.Plan.{rotation, correctingRotation, linearMotion, translation, planned}
 use Rattle.planner.specs.How.{appliedFeet, readyFeet}
 
-pub together : (start relaxed : Feet) (t : Tripod) (c : MoveCommand) → appliedFeet (turn (choose (isLRL t) (ahead c) (back start relaxed t c))) (turn (choose (isLRL t) (back start relaxed t c) (ahead c))) (readyFeet (isLRL t) start relaxed (motionOf c) (shiftOf start relaxed t)) ≡ planned start relaxed t c
+pub together :
+    (start relaxed : Feet) (t : Tripod) (c : MoveCommand)
+    → appliedFeet
+    (turn (choose (isLRL t) (rotation c) (correctingRotation start relaxed t c)))
+    (turn (choose (isLRL t) (correctingRotation start relaxed t c) (rotation c)))
+    (readyFeet (isLRL t) start relaxed (linearMotion c) (translation start relaxed t))
+    ≡ planned start relaxed t c
 unfolding appliedFeet readyFeet planned
 together start relaxed LRL c = refl
 together start relaxed RLR c = refl

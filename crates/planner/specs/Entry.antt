@@ -4,7 +4,7 @@ use mathlib.Core.Bool.{_&&_}
 use mathlib.Core.List.{[], _∷_}
 use Rattle.numbers.specs.Told.{Told, answer}
 use Rattle.numbers.specs.Door.{unless, firstOf}
-use Rattle.numbers.specs.Limits.{foot as footLimit}
+use Rattle.numbers.specs.Limits.{footLimit}
 use Rattle.legs.specs.Legs.{finiteFeet, permittedFeet}
 use Rattle.legs.specs.Answers.{givenFeet}
 use Rattle.legs.specs.declared.Feet.{Feet}

@@ -6,13 +6,14 @@ use lib.Ieee.{Float, binary32, add, sub, div, neg}
 use Rattle.numbers.specs.Told.{choose}
 use Rattle.numbers.specs.Limits.{over}
 use Rattle.legs.specs.Legs.{Leg, leftFront, rightFront, leftMiddle, rightMiddle, leftRear, rightRear, foot, feet}
+use Rattle.legs.specs.Vectors.{plus, minus}
 use Rattle.legs.specs.declared.Point.{Point}
 use Rattle.legs.specs.declared.Feet.{Feet}
 use Rattle.commands.specs.Tripods.{has}
 use Rattle.commands.specs.declared.Tripod.{Tripod}
 use Rattle.commands.specs.declared.Tripod.the-variants.{LRL, RLR}
 use Rattle.commands.specs.declared.MoveCommand.{MoveCommand}
-use Rattle.planner.specs.Turns.{turn, applied, turnBetween}
+use Rattle.planner.specs.Turns.{turn, applied, rotationBetween}
 use Rattle.planner.specs.declared.core.Trio.{Trio}
 
 abbrev pub trioOf : Point → Point → Point → Trio
@@ -37,61 +38,55 @@ two = over 2 1
 unfoldable pub three : Float
 three = over 3 1
 
-abbrev pub third : Float → Float → Float → Float
-third a b c = div binary32 (add binary32 (add binary32 a b) c) three
+abbrev pub meanOfThree : Float → Float → Float → Float
+meanOfThree a b c = div binary32 (add binary32 (add binary32 a b) c) three
 
 -- vectors in x and y have 0 for their third component
 abbrev pub level : Float → Float → Point
 level a b = record { x = a; y = b; z = nought }
 
-unfoldable pub centre : Trio → Point
-centre t =
+unfoldable pub centerPoint : Trio → Point
+centerPoint t =
     level
-    (third (t .first .x) (t .second .x) (t .third .x))
-    (third (t .first .y) (t .second .y) (t .third .y))
+    (meanOfThree (t .first .x) (t .second .x) (t .third .x))
+    (meanOfThree (t .first .y) (t .second .y) (t .third .y))
 
--- the way from the first to the second
+-- the way from the first to the second, in x and y
 unfoldable pub between : Point → Point → Point
 between a b = level (sub binary32 (b .x) (a .x)) (sub binary32 (b .y) (a .y))
 
-unfoldable pub plus : Point → Point → Point
-plus p v = record { x = add binary32 (p .x) (v .x); y = add binary32 (p .y) (v .y); z = add binary32 (p .z) (v .z) }
-
-unfoldable pub minus : Point → Point → Point
-minus p v = record { x = sub binary32 (p .x) (v .x); y = sub binary32 (p .y) (v .y); z = sub binary32 (p .z) (v .z) }
-
 -- the mean of the three angles: start vectors from the start's centre, relaxed ones as they stand
-unfoldable pub averageTurn : Trio → Point → Trio → Float
-averageTurn start middle relaxed =
-    third
-    (turnBetween (between middle (start .first)) (relaxed .first))
-    (turnBetween (between middle (start .second)) (relaxed .second))
-    (turnBetween (between middle (start .third)) (relaxed .third))
+unfoldable pub averageRotation : Trio → Point → Trio → Float
+averageRotation start middle relaxed =
+    meanOfThree
+    (rotationBetween (between middle (start .first)) (relaxed .first))
+    (rotationBetween (between middle (start .second)) (relaxed .second))
+    (rotationBetween (between middle (start .third)) (relaxed .third))
 
 -- a foot before its turn
 unfoldable pub readyFoot : Bool → Point → Point → Point → Point → Point
-readyFoot lifted start relaxed motion shift =
-    choose lifted (plus relaxed motion) (minus (plus start shift) motion)
+readyFoot lifted start relaxed linearMotion translation =
+    choose lifted (plus relaxed linearMotion) (minus (plus start translation) linearMotion)
 
--- the angle of a lifted foot's turn and of a standing one's
-abbrev pub ahead : MoveCommand → Float
-ahead c = div binary32 (c .rotation) two
+-- the angles of the source's two rotations about z: of a lifted foot, and of a standing one
+abbrev pub rotation : MoveCommand → Float
+rotation c = div binary32 (c .rotation) two
 
-abbrev pub back : Feet → Feet → Tripod → MoveCommand → Float
-back start relaxed lifted c =
+abbrev pub correctingRotation : Feet → Feet → Tripod → MoveCommand → Float
+correctingRotation start relaxed lifted c =
     add binary32
-    (averageTurn (inRow lifted start) (centre (summed lifted start)) (inRow lifted relaxed))
+    (averageRotation (inRow lifted start) (centerPoint (summed lifted start)) (inRow lifted relaxed))
     (div binary32 (neg (c .rotation)) two)
 
-abbrev pub motionOf : MoveCommand → Point
-motionOf c = level (c .«direction_x») (c .«direction_y»)
+abbrev pub linearMotion : MoveCommand → Point
+linearMotion c = level (c .«direction_x») (c .«direction_y»)
 
-abbrev pub shiftOf : Feet → Feet → Tripod → Point
-shiftOf start relaxed lifted = between (centre (summed lifted start)) (centre (summed lifted relaxed))
+abbrev pub translation : Feet → Feet → Tripod → Point
+translation start relaxed lifted = between (centerPoint (summed lifted start)) (centerPoint (summed lifted relaxed))
 
 unfoldable pub planned : Feet → Feet → Tripod → MoveCommand → Feet
 planned start relaxed lifted c =
     feet (λ l.
     applied
-    (turn (choose (has lifted l) (ahead c) (back start relaxed lifted c)))
-    (readyFoot (has lifted l) (foot start l) (foot relaxed l) (motionOf c) (shiftOf start relaxed lifted)))
+    (turn (choose (has lifted l) (rotation c) (correctingRotation start relaxed lifted c)))
+    (readyFoot (has lifted l) (foot start l) (foot relaxed l) (linearMotion c) (translation start relaxed lifted)))

@@ -1,13 +1,12 @@
--- Document 01, "Steps": "A turn is a rotation matrix of three rows of three numbers about z: (c, 0 - s, 0), (s, c, 0), (0, 0, 1), our cosine and sine;
--- products sum left to right. The angle of `rotation_between` is here atan2(x1 y2 - y1 x2, x1 x2 + y1 y2) of the two vectors as they stand, start
--- first, 0 if either is zero."
+-- Document 01, "Steps": "A turn is a rotation matrix of three rows of three numbers about z: (c, 0 - s, 0), (s, c, 0), (0, 0, 1), our
+-- cosine and sine; products sum left to right. The angle of `rotation_between` is here atan2(x1 y2 - y1 x2, x1 x2 + y1 y2) of the two
+-- vectors as they stand, start first, 0 if either is zero."
 use Rattle.commands.specs.Constants.{nought, one}
 use mathlib.Core.Bool.{Bool, _&&_, _||_}
 use mathlib.Core.List.{List, [], _∷_}
 use lib.ListN.{getD}
 use lib.Ieee.{Float, nan, binary32, add, sub, mul, eq}
 use Rattle.numbers.specs.Told.{choose}
-use Rattle.numbers.specs.Limits.{over}
 use Rattle.legs.specs.declared.Point.{Point}
 use Rattle.sines.specs.How.{sine, cosine}
 use Rattle.arcs.specs.How.{atan2}
@@ -36,8 +35,8 @@ isZero v = eq (v .x) nought && eq (v .y) nought
 abbrev pub across : Point → Point → Float
 across a b = sub binary32 (mul binary32 (a .x) (b .y)) (mul binary32 (a .y) (b .x))
 
-abbrev pub along : Point → Point → Float
-along a b = add binary32 (mul binary32 (a .x) (b .x)) (mul binary32 (a .y) (b .y))
+abbrev pub inner : Point → Point → Float
+inner a b = add binary32 (mul binary32 (a .x) (b .x)) (mul binary32 (a .y) (b .y))
 
-unfoldable pub turnBetween : Point → Point → Float
-turnBetween a b = choose (isZero a || isZero b) nought (atan2 (across a b) (along a b))
+unfoldable pub rotationBetween : Point → Point → Float
+rotationBetween a b = choose (isZero a || isZero b) nought (atan2 (across a b) (inner a b))

@@ -7,7 +7,8 @@ use legs::Point;
 ghost use mathlib.Core.Path.{_≡_};
 ghost use Rattle.numbers.specs.Told.{choose};
 ghost use Rattle.commands.specs.Tripods.{isLRL};
-ghost use Rattle.planner.specs.Plan.{trioOf, summed, inRow, centre, between, plus, minus, averageTurn, readyFoot, planned};
+ghost use Rattle.legs.specs.Vectors.{plus, minus};
+ghost use Rattle.planner.specs.Plan.{trioOf, summed, inRow, centerPoint, between, averageRotation, readyFoot, planned};
 ghost use Rattle.planner.specs.How.{readyFeet};
 
 // The three standing feet, in the order in which they are summed.
@@ -17,6 +18,7 @@ pub struct Trio {
     pub third: Point,
 }
 
+// Three feet, in that order.
 fn three(first: Point, second: Point, third: Point) -> Trio
     ensures { λ r. ⌜ r ≡ trioOf first second third ⌝ }
 {
@@ -48,8 +50,8 @@ fn in_row(lifted: Tripod, feet: Feet) -> Trio
 }
 
 // The centre of three feet, in x and y.
-fn centre(t: Trio) -> Point
-    ensures { λ r. ⌜ r ≡ centre t ⌝ }
+fn center_point(t: Trio) -> Point
+    ensures { λ r. ⌜ r ≡ centerPoint t ⌝ }
 {
     Point {
         x: (t.first.x + t.second.x + t.third.x) / 3.0,
@@ -69,6 +71,7 @@ fn between(a: Point, b: Point) -> Point
     }
 }
 
+// A point moved by a vector.
 fn plus(p: Point, v: Point) -> Point
     ensures { λ r. ⌜ r ≡ plus p v ⌝ }
 {
@@ -79,6 +82,7 @@ fn plus(p: Point, v: Point) -> Point
     }
 }
 
+// A point moved against a vector.
 fn minus(p: Point, v: Point) -> Point
     ensures { λ r. ⌜ r ≡ minus p v ⌝ }
 {
@@ -90,16 +94,16 @@ fn minus(p: Point, v: Point) -> Point
 }
 
 // The mean angle from the start's vectors, taken from their centre, to the relaxed ones, which are not.
-fn average_turn(start: Trio, centre: Point, relaxed: Trio) -> f32
-    ensures { λ r. ⌜ r ≡ averageTurn start centre relaxed ⌝ }
+fn average_rotation(start: Trio, middle: Point, relaxed: Trio) -> f32
+    ensures { λ r. ⌜ r ≡ averageRotation start middle relaxed ⌝ }
 {
-    let a = turns::turn_between(between(centre, start.first), relaxed.first);
-    let b = turns::turn_between(between(centre, start.second), relaxed.second);
-    let c = turns::turn_between(between(centre, start.third), relaxed.third);
+    let a = turns::rotation_between(between(middle, start.first), relaxed.first);
+    let b = turns::rotation_between(between(middle, start.second), relaxed.second);
+    let c = turns::rotation_between(between(middle, start.third), relaxed.third);
     (a + b + c) / 3.0
 }
 
-// A foot before its turn: a lifted one ahead of its relaxed place, a standing one moved back with the body.
+// A foot before its turn: a lifted one ahead of its relaxed place by the linear motion, a standing one back by it, after the translation.
 fn ready_foot(lifted: bool, start: Point, relaxed: Point, motion: Point, shift: Point) -> Point
     ensures { λ r. ⌜ r ≡ readyFoot lifted start relaxed motion shift ⌝ }
 {
@@ -134,6 +138,7 @@ fn is_lrl(tripod: Tripod) -> bool
     }
 }
 
+// The first number where the flag stands, else the second.
 fn chosen(flag: bool, x: f32, y: f32) -> f32
     ensures { λ r. ⌜ r ≡ choose flag x y ⌝ }
 {
@@ -149,27 +154,27 @@ pub fn step_with_relaxed_transformation(
 ) -> Feet
     ensures { λ r. ⌜ r ≡ planned start relaxed «lifted_tripod» command ⌝ }
 {
-    let motion = Point {
+    let linear_motion = Point {
         x: command.direction_x,
         y: command.direction_y,
         z: 0.0,
     };
-    let start_centre = centre(summed(lifted_tripod, start));
-    let relaxed_centre = centre(summed(lifted_tripod, relaxed));
-    let shift = between(start_centre, relaxed_centre);
-    let average = average_turn(
+    let start_center_point = center_point(summed(lifted_tripod, start));
+    let relaxed_center_point = center_point(summed(lifted_tripod, relaxed));
+    let translation = between(start_center_point, relaxed_center_point);
+    let average = average_rotation(
         in_row(lifted_tripod, start),
-        start_centre,
+        start_center_point,
         in_row(lifted_tripod, relaxed),
     );
-    let ahead = command.rotation / 2.0;
-    let back = average + -command.rotation / 2.0;
+    let rotation = command.rotation / 2.0;
+    let correcting_rotation = average + -command.rotation / 2.0;
     let lrl = is_lrl(lifted_tripod);
-    let first = turns::turn(chosen(lrl, ahead, back));
-    let second = turns::turn(chosen(lrl, back, ahead));
-    turns::turned_feet(
+    let first = turns::turn(chosen(lrl, rotation, correcting_rotation));
+    let second = turns::turn(chosen(lrl, correcting_rotation, rotation));
+    turns::applied_feet(
         first,
         second,
-        ready_feet(lrl, start, relaxed, motion, shift),
+        ready_feet(lrl, start, relaxed, linear_motion, translation),
     )
 }

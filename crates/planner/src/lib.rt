@@ -16,7 +16,7 @@ pub mod turns;
 pub fn plan_refused(start: Feet, relaxed: Feet, command: MoveCommand) -> u32
     ensures { λ r. ⌜ r ≡ planRefusal start relaxed command ⌝ }
 {
-    let limit = numbers::limits::foot();
+    let limit = numbers::limits::foot_limit();
     let permitted = legs::core::feet_permitted(limit, start)
         & legs::core::feet_permitted(limit, relaxed)
         & commands::core::command_permitted(command);

@@ -2,7 +2,7 @@
 use legs::Feet;
 use legs::Point;
 ghost use mathlib.Core.Path.{_≡_};
-ghost use Rattle.planner.specs.Turns.{turn, dot, applied, isZero, turnBetween};
+ghost use Rattle.planner.specs.Turns.{turn, dot, applied, isZero, rotationBetween};
 ghost use Rattle.planner.specs.How.{appliedFeet};
 
 // The matrix of a turn by this angle.
@@ -23,7 +23,7 @@ fn dotted(row: [f32; 3], p: Point) -> f32
 }
 
 // The point turned.
-pub fn turned(m: [[f32; 3]; 3], p: Point) -> Point
+pub fn applied(m: [[f32; 3]; 3], p: Point) -> Point
     ensures { λ r. ⌜ r ≡ applied m p ⌝ }
 {
     Point {
@@ -34,16 +34,16 @@ pub fn turned(m: [[f32; 3]; 3], p: Point) -> Point
 }
 
 // Six feet turned: left front, right middle and left rear by the first, the other three by the second.
-pub fn turned_feet(lrl: [[f32; 3]; 3], rlr: [[f32; 3]; 3], feet: Feet) -> Feet
+pub fn applied_feet(lrl: [[f32; 3]; 3], rlr: [[f32; 3]; 3], feet: Feet) -> Feet
     ensures { λ r. ⌜ r ≡ appliedFeet lrl rlr feet ⌝ }
 {
     Feet {
-        left_front: turned(lrl, feet.left_front),
-        left_middle: turned(rlr, feet.left_middle),
-        left_rear: turned(lrl, feet.left_rear),
-        right_front: turned(rlr, feet.right_front),
-        right_middle: turned(lrl, feet.right_middle),
-        right_rear: turned(rlr, feet.right_rear),
+        left_front: applied(lrl, feet.left_front),
+        left_middle: applied(rlr, feet.left_middle),
+        left_rear: applied(lrl, feet.left_rear),
+        right_front: applied(rlr, feet.right_front),
+        right_middle: applied(lrl, feet.right_middle),
+        right_rear: applied(rlr, feet.right_rear),
     }
 }
 
@@ -55,8 +55,8 @@ fn is_zero(v: Point) -> bool
 }
 
 // The angle from the first vector to the second, in x and y, as they stand; 0 where either is zero.
-pub fn turn_between(a: Point, b: Point) -> f32
-    ensures { λ r. ⌜ r ≡ turnBetween a b ⌝ }
+pub fn rotation_between(a: Point, b: Point) -> f32
+    ensures { λ r. ⌜ r ≡ rotationBetween a b ⌝ }
 {
     if is_zero(a) | is_zero(b) {
         0.0

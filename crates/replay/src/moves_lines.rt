@@ -1,103 +1,83 @@
-// The operations on foot moves.
-use crate::answers;
-use crate::answers::Out;
-use crate::fields;
-use hopper::foot_moves::FeetStep;
-use hopper::foot_moves::FeetTowards;
-use hopper::foot_moves::MoveStep;
-use hopper::foot_moves::Towards;
-use hopper::foot_moves::Walked;
-
-// `M` for moved, `A` for arrived, and the point.
-fn step(s: MoveStep) -> Out {
-    match s {
-        MoveStep::Moved(p) => answers::point(answers::letter(answers::ok(), b'M'), p),
-        MoveStep::Arrived(p) => answers::point(answers::letter(answers::ok(), b'A'), p),
-    }
-}
-
-fn towards(t: Towards) -> Out {
-    match t {
-        Towards::Answered(s) => step(s),
-        Towards::Refused(n) => answers::refused(n),
-    }
-}
+// The operations on foot moves. Where a field begins among the words: a point has three, a row eighteen.
+use fields::Words;
+use fields::answers;
+use fields::asked;
+use fields::said;
 
 // mv: last, target, max move.
-pub fn point_move(s: &[u8]) -> Out {
-    let last = fields::point(s, fields::first(s));
-    let target = fields::point(s, last.next);
-    let m = fields::float(s, target.next);
-    if fields::done(s, m.next) {
-        towards(hopper::foot_moves::move_towards(last.value, target.value, m.value))
-    } else {
-        answers::unreadable()
-    }
+pub fn point_move(w: Words) -> Words {
+    answers::towards(hopper::foot_moves::move_towards(
+        asked::point(w, 0, 0),
+        asked::point(w, 0, 3),
+        asked::float(w, 0, 6),
+    ))
 }
 
-fn feet_step(s: FeetStep) -> Out {
-    match s {
-        FeetStep::Moved(f) => answers::feet(answers::letter(answers::ok(), b'M'), f),
-        FeetStep::Arrived(f) => answers::feet(answers::letter(answers::ok(), b'A'), f),
-    }
+// mvv: the same of a vector.
+pub fn vector_move(w: Words) -> Words {
+    answers::towards(hopper::foot_moves::move_vector_towards(
+        asked::point(w, 0, 0),
+        asked::point(w, 0, 3),
+        asked::float(w, 0, 6),
+    ))
 }
 
-fn feet_towards(t: FeetTowards) -> Out {
-    match t {
-        FeetTowards::Answered(s) => feet_step(s),
-        FeetTowards::Refused(n) => answers::refused(n),
-    }
+// mv6: the same of six feet.
+pub fn feet_move(w: Words) -> Words {
+    answers::feet_towards(hopper::foot_moves::move_feet_towards(
+        asked::feet(w, 0),
+        asked::feet(w, 18),
+        asked::float(w, 0, 36),
+    ))
 }
 
-// mv6: the last row, the target row, max move.
-pub fn feet_move(s: &[u8]) -> Out {
-    let last = fields::feet(s, fields::first(s));
-    let target = fields::feet(s, last.next);
-    let m = fields::float(s, target.next);
-    if fields::done(s, m.next) {
-        feet_towards(hopper::foot_moves::move_feet_towards(last.value, target.value, m.value))
-    } else {
-        answers::unreadable()
-    }
+// iter: last, target, max move.
+pub fn point_iter(w: Words) -> Words {
+    answers::point_iter(hopper::foot_moves::to_move_towards_iter(
+        asked::point(w, 0, 0),
+        asked::point(w, 0, 3),
+        asked::float(w, 0, 6),
+    ))
 }
 
-// ldist: two rows.
-pub fn longest(s: &[u8]) -> Out {
-    let a = fields::feet(s, fields::first(s));
-    let b = fields::feet(s, a.next);
-    if fields::done(s, b.next) {
-        answers::number(hopper::foot_moves::longest_distance(a.value, b.value))
-    } else {
-        answers::unreadable()
-    }
+// iter6: the same of six feet.
+pub fn feet_iter(w: Words) -> Words {
+    answers::feet_iter(hopper::foot_moves::feet_to_move_towards_iter(
+        asked::feet(w, 0),
+        asked::feet(w, 18),
+        asked::float(w, 0, 36),
+    ))
 }
 
-// walk: max move, start, target. The count, then the target, as the last step reports it.
-pub fn point_walk(s: &[u8]) -> Out {
-    let m = fields::float(s, fields::first(s));
-    let start = fields::point(s, m.next);
-    let target = fields::point(s, start.next);
-    if fields::done(s, target.next) {
-        match hopper::foot_moves::walk(m.value, start.value, target.value) {
-            Walked::Count(n) => answers::point(answers::decimal(answers::ok(), n), target.value),
-            Walked::Refused(n) => answers::refused(n),
-        }
-    } else {
-        answers::unreadable()
-    }
+// next: last, target, max move.
+pub fn next_point(w: Words) -> Words {
+    answers::next_point(asked::moving_point(w).next())
+}
+
+// next6: the same of six feet.
+pub fn next_feet(w: Words) -> Words {
+    answers::next_feet(asked::moving_feet(w).next())
+}
+
+// walk: max move, start, target.
+pub fn point_walk(w: Words) -> Words {
+    let target = asked::point(w, 0, 4);
+    answers::walked(
+        hopper::foot_moves::walk(asked::float(w, 0, 0), asked::point(w, 0, 1), target),
+        said::point(said::uncounted(), target),
+    )
 }
 
 // walk6: the same of six feet.
-pub fn feet_walk(s: &[u8]) -> Out {
-    let m = fields::float(s, fields::first(s));
-    let start = fields::feet(s, m.next);
-    let target = fields::feet(s, start.next);
-    if fields::done(s, target.next) {
-        match hopper::foot_moves::walk_feet(m.value, start.value, target.value) {
-            Walked::Count(n) => answers::feet(answers::decimal(answers::ok(), n), target.value),
-            Walked::Refused(n) => answers::refused(n),
-        }
-    } else {
-        answers::unreadable()
-    }
+pub fn feet_walk(w: Words) -> Words {
+    let target = asked::feet(w, 19);
+    answers::walked(
+        hopper::foot_moves::walk_feet(asked::float(w, 0, 0), asked::feet(w, 1), target),
+        said::feet(said::uncounted(), target),
+    )
+}
+
+// ldist: two rows.
+pub fn longest(w: Words) -> Words {
+    answers::number(hopper::foot_moves::longest_distance(asked::feet(w, 0), asked::feet(w, 18)))
 }

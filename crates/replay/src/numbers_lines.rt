@@ -1,38 +1,34 @@
 // The operations on numbers.
-use crate::answers;
-use crate::answers::Out;
-use crate::fields;
-use crate::names;
+use fields::Words;
+use fields::answers;
+use fields::asked;
+use fields::names;
+use fields::said;
+use hopper::numbers::Answer;
 
-// One float in.
-pub fn one(s: &[u8], name: u64) -> Out {
-    let x = fields::float(s, fields::first(s));
-    if fields::done(s, x.next) {
-        match name {
-            names::ABS => answers::number(hopper::numbers::absolute(x.value)),
-            names::SQRT => answers::number(hopper::numbers::square_root(x.value)),
-            names::SIN => answers::number(hopper::numbers::sine(x.value)),
-            names::COS => answers::number(hopper::numbers::cosine(x.value)),
-            names::ACOS => answers::number(hopper::numbers::arc_cosine(x.value)),
-            _ => answers::unreadable(),
-        }
-    } else {
-        answers::unreadable()
+// abs, sqrt, sin, cos, acos; min, max, atan2.
+fn number(name: u64, x: f32, y: f32) -> Answer {
+    match name {
+        names::ABS => hopper::numbers::absolute(x),
+        names::SQRT => hopper::numbers::square_root(x),
+        names::SIN => hopper::numbers::sine(x),
+        names::COS => hopper::numbers::cosine(x),
+        names::ACOS => hopper::numbers::arc_cosine(x),
+        names::MIN => hopper::numbers::min(x, y),
+        names::MAX => hopper::numbers::max(x, y),
+        _ => hopper::numbers::atan2(x, y),
     }
 }
 
-// Two floats in.
-pub fn two(s: &[u8], name: u64) -> Out {
-    let x = fields::float(s, fields::first(s));
-    let y = fields::float(s, x.next);
-    if fields::done(s, y.next) {
-        match name {
-            names::MIN => answers::number(hopper::numbers::min(x.value, y.value)),
-            names::MAX => answers::number(hopper::numbers::max(x.value, y.value)),
-            names::ATAN2 => answers::number(hopper::numbers::atan2(x.value, y.value)),
-            _ => answers::unreadable(),
-        }
-    } else {
-        answers::unreadable()
-    }
+// One float or two.
+pub fn on_numbers(name: u64, w: Words) -> Words {
+    answers::number(number(name, asked::float(w, 0, 0), asked::float(w, 0, 1)))
+}
+
+// bits: a float.
+pub fn bits(w: Words) -> Words {
+    said::float(
+        said::ok(),
+        hopper::numbers::from_pattern(asked::bits(w, 0, 0)),
+    )
 }

@@ -1,64 +1,49 @@
 // Which operation a line names.
-use crate::answers;
-use crate::answers::Out;
-use crate::fields;
-use crate::joints_lines;
 use crate::legs_lines;
 use crate::moves_lines;
-use crate::names;
 use crate::numbers_lines;
-use crate::steps_lines;
+use fields::Words;
+use fields::line;
+use fields::names;
+use fields::said;
 
-// Operations on numbers.
-fn on_numbers(s: &[u8], name: u64) -> Out {
+// Operations on numbers, legs and foot moves.
+fn answered(name: u64, w: Words) -> Words {
     match name {
-        names::ABS | names::SQRT | names::SIN | names::COS | names::ACOS => numbers_lines::one(
-            s,
-            name,
-        ),
-        names::MIN | names::MAX | names::ATAN2 => numbers_lines::two(s, name),
-        _ => answers::unreadable(),
-    }
-}
-
-// Operations on legs and foot moves.
-fn on_feet(s: &[u8], name: u64) -> Out {
-    match name {
-        names::MERGE => legs_lines::merge(s),
-        names::SEL => legs_lines::select(s),
-        names::UPD => legs_lines::update(s),
-        names::MV => moves_lines::point_move(s),
-        names::MV6 => moves_lines::feet_move(s),
-        names::LDIST => moves_lines::longest(s),
-        names::WALK => moves_lines::point_walk(s),
-        names::WALK6 => moves_lines::feet_walk(s),
-        _ => on_numbers(s, name),
-    }
-}
-
-// Operations on steps and joints.
-fn on_steps(s: &[u8], name: u64) -> Out {
-    match name {
-        names::TPROG => steps_lines::timed_progress(s),
-        names::EPROG => steps_lines::even_progress(s),
-        names::STEP => steps_lines::step(s),
-        names::TSTEP => steps_lines::timed_step(s),
-        names::ESTEP => steps_lines::even_step(s),
-        names::PLAN => steps_lines::plan(s),
-        names::IK => joints_lines::inverse(s),
-        names::FK => joints_lines::forward(s),
-        _ => on_feet(s, name),
+        names::ABS
+        | names::SQRT
+        | names::SIN
+        | names::COS
+        | names::ACOS
+        | names::MIN
+        | names::MAX
+        | names::ATAN2 => numbers_lines::on_numbers(name, w),
+        names::BITS => numbers_lines::bits(w),
+        names::SEL => legs_lines::select(w),
+        names::UPD => legs_lines::update(w),
+        names::MERGE => legs_lines::merge(w),
+        names::MV => moves_lines::point_move(w),
+        names::MVV => moves_lines::vector_move(w),
+        names::ITER => moves_lines::point_iter(w),
+        names::NEXT => moves_lines::next_point(w),
+        names::WALK => moves_lines::point_walk(w),
+        names::MV6 => moves_lines::feet_move(w),
+        names::ITER6 => moves_lines::feet_iter(w),
+        names::LDIST => moves_lines::longest(w),
+        names::NEXT6 => moves_lines::next_feet(w),
+        names::WALK6 => moves_lines::feet_walk(w),
+        _ => step_lines::answered(name, w),
     }
 }
 
 // The answer to a line.
-pub fn answer(s: &[u8]) -> Out {
-    let name = fields::name(s);
-    match name {
-        names::SHOULD => steps_lines::should(s),
-        names::INV => steps_lines::inverted(s),
-        names::FLAG => steps_lines::flag(s),
-        names::CONSTS => steps_lines::constants(s),
-        _ => on_steps(s, name),
+pub fn answer(s: &[u8]) -> Words {
+    let name = line::name(s);
+    let l = line::read(s, names::shape(name));
+    let words = l.words;
+    if l.good {
+        answered(name, words)
+    } else {
+        said::unreadable()
     }
 }

@@ -2,13 +2,14 @@
 use mathlib.Core.Path.{_≡_, sym, ap, _∙_, subst}
 use mathlib.Core.Logic.{inl, inr}
 use Prim.Native.Nat.{ℕ, suc, _+_, _-_, _*_, _^_, _≤_, _<_}
-use native.Mathlib.Nat.{le-trans, le-of-eq, lt-of-lt-of-le, lt-of-le-of-lt, mul-assoc, lt-of-mul-lt-mul-right, mul-le-mul-left, mul-le-mul-right, add-mul, eq-or-lt-of-le}
+use native.Mathlib.Nat.{le-trans, le-of-eq, lt-of-lt-of-le, lt-of-le-of-lt, mul-assoc}
+use native.Mathlib.Nat.{lt-of-mul-lt-mul-right, mul-le-mul-left, mul-le-mul-right, add-mul, eq-or-lt-of-le}
 use native.Mathlib.Omega.{arith}
 use Rattle.units.proofs.Whole.{le-or-lt}
 use Rattle.units.proofs.Digits.{Digits, multiple}
-use Rattle.roots.specs.How.{sq, Nearest}
+use Rattle.roots.specs.How.{sq}
 use Rattle.roots.proofs.Squares.{sq-le}
-use Rattle.roots.proofs.Nearest.{four, q-low}
+use Rattle.roots.proofs.Nearest.{Nearest, four, q-low}
 
 sq-lt : {a b : ℕ} → a < b → sq a < sq b
 sq-lt {a} {b} h = lt-of-lt-of-le (next a) (sq-le h)

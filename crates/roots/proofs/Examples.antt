@@ -2,8 +2,8 @@
 use mathlib.Core.Path.{_≡_, refl}
 use mathlib.Core.Bool.{true, false}
 use lib.IntN.{pos, negsuc}
-use lib.Ieee.{fin, binary32, ofBits, inf, nan}
-use Rattle.roots.specs.Root.{squareRoot}
+use lib.Ieee.{fin, binary32, ofBits}
+use Rattle.roots.specs.How.{squareRoot}
 
 a-sixteenth : squareRoot (fin false 1 (negsuc 3)) ≡ fin false 1 (negsuc 1)
 unfolding squareRoot

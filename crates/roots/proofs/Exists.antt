@@ -8,9 +8,9 @@ use lib.Pow.{pow-add, pow-mono, shl-lt}
 use lib.Ieee.{size}
 use lib.Ieee.Digits.{size-lt, size-le, size-reaches}
 use Rattle.units.specs.Patterns.{valOf, val}
-use Rattle.roots.specs.How.{sq, Nearest, wholeRoot, Lifted, Even}
+use Rattle.roots.specs.How.{sq, wholeRoot, Lifted, Even}
 use Rattle.roots.proofs.Powers.{lifted, even, uneven, field-more, joined}
-use Rattle.roots.proofs.Nearest.{nearest-of, whole-root-is}
+use Rattle.roots.proofs.Nearest.{Nearest, nearest-of, whole-root-is}
 
 -- ---- 24 digits
 size-pos : (t : ℕ) → 0 < t → 0 < size t
@@ -110,8 +110,13 @@ root-exists b l u =
     let p = P .1 in
     let R = radicand-exists m p (P .2 .m-low) (P .2 .m-high) in
     let M = R .0 in
-    let Q = near-exists M (pos M (R .1 .r-low)) (R .1 .r-high) in
-    (Q .0, (p - 23) / 2, nearest-of (val b) (Q .0) ((p - 23) / 2) M (joined (val b) m p M (P .2) (R .1)) (R .1 .r-low) (R .1 .r-high) (Q .1 .0) (Q .1 .1), few p (P .2 .p-high))
+    let Q = near-exists M (pos M (R .1 .r-low)) (R .1 .r-high) in (
+      Q .0,
+      (p - 23) / 2,
+      nearest-of (val b) (Q .0) ((p - 23) / 2) M (joined (val b) m p M (P .2) (R .1)) (R .1 .r-low) (R .1 .r-high)
+          (Q .1 .0) (Q .1 .1),
+      few p (P .2 .p-high),
+    )
   where
     pos : (M : ℕ) → 2 ^ 46 ≤ M → 0 < M
     pos M h = omega arith

@@ -9,8 +9,7 @@ use lib.Ieee.Positive.{positive}
 use Rattle.units.specs.Units.{mag}
 use Rattle.units.specs.Patterns.{val}
 use Rattle.units.proofs.Above.{mag-val}
-use Rattle.roots.specs.How.{nearestRoot}
-use Rattle.roots.specs.Root.{squareRoot}
+use Rattle.roots.specs.How.{nearestRoot, squareRoot}
 
 pub root-above : (x : Float) → T (positive x) → squareRoot x ≡ nearestRoot (mag x)
 unfolding squareRoot

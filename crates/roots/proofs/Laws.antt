@@ -1,32 +1,33 @@
--- The laws of the square root for callers: it is the one closest f32, the format holds it, it keeps the order, its square is near, and it is bounded by squares.
+-- The laws of the square root for callers: it is the one closest f32, the format holds it, it keeps the order, its square is near, and
+-- squares bound it.
 -- A premise `lo x ≡ 0` says that x is not below zero; -0 has no units.
 use mathlib.Core.Path.{_≡_, refl, sym, ap, _∙_, subst}
 use mathlib.Core.Logic.{_⊎_, inl, inr}
 use Prim.Native.Nat.{ℕ, zero, suc, _+_, _-_, _*_, _/_, _^_, _≤_, _<_, zero-le}
-use native.Mathlib.Nat.{le-trans, le-of-eq, le-antisymm, lt-of-lt-of-le, lt-of-le-of-lt, mul-le-mul, mul-le-mul-right, mul-pos, lt-irrefl, zero-mul, zero-div, zero-lt-suc}
+use native.Mathlib.Nat.{le-trans, le-of-eq, le-antisymm, lt-of-lt-of-le, lt-of-le-of-lt, mul-le-mul}
+use native.Mathlib.Nat.{mul-le-mul-right, lt-irrefl, zero-mul, zero-div, zero-lt-suc}
 use native.Mathlib.Omega.{arith}
 use mathlib.Core.Bool.{Bool, true, false}
 use lib.IntN.{pos}
 use lib.Dec.{T, lt→ltb, lit<, lit≤}
-use lib.Pow.{pow-pos, pow-mono}
-use lib.Ieee.{Float, nan, inf, fin, binary32, up, down, units, toBits, fits, le}
+use lib.Pow.{pow-mono}
+use lib.Ieee.{Float, nan, inf, fin, binary32, up, down, units, toBits, fits}
 use lib.Ieee.Exact.{HasValue, units-val}
-use lib.Ieee.Positive.{positive, positive-of-value}
+use lib.Ieee.Positive.{positive}
 use Rattle.numbers.specs.Door.{finite, permits}
 use Rattle.numbers.specs.Limits.{rootArgument}
-use Rattle.units.specs.Units.{unity, Part, hi, lo, mag, Units}
+use Rattle.units.specs.Units.{unity, lo, mag, Units}
 use Rattle.units.proofs.Values.{mag-is, lo-is, plus-part}
 use Rattle.units.proofs.Held.{single}
-use Rattle.units.proofs.Order.{le-part, le-values}
 use Rattle.units.proofs.Patterns.{one-value, units-fits}
 use Rattle.units.proofs.Digits.{digits-of}
-use Rattle.units.proofs.Above.{pattern, mag-val, mag-pos, mag-value}
+use Rattle.units.proofs.Above.{pattern, mag-val, mag-pos}
 use Rattle.units.proofs.Door.{finite-is, permitted-mag, permitted-above}
 use Rattle.units.proofs.Table.{root-argument-ends}
-use Rattle.roots.specs.How.{sq}
-use Rattle.roots.specs.Root.{squareRoot, Closest, RootOf}
+use Rattle.roots.specs.How.{sq, squareRoot}
+use Rattle.roots.specs.Root.{Closest, RootOf}
 use Rattle.roots.proofs.Squares.{sq-le}
-use Rattle.roots.proofs.Nearest.{nearest-root, nearest-mono, q-low, q-high, square-high, square-low}
+use Rattle.roots.proofs.Nearest.{nearest-root, nearest-mono, q-high, square-high, square-low}
 use Rattle.roots.proofs.Exists.{Found, root-exists}
 use Rattle.roots.proofs.Closest.{nearest-above, nearest-below}
 use Rattle.roots.proofs.Given.{root-above, root-back}
@@ -47,12 +48,6 @@ module _ (x : Float) (F : T (fits binary32 x)) (P : T (positive x)) where
   mag-root : mag (squareRoot x) ≡ found .0 * 2 ^ found .1
   mag-root = mag-is (squareRoot x) false (found .0 * 2 ^ found .1) root-val
 
-  root-pos : 0 < found .0 * 2 ^ found .1
-  root-pos = mul-pos (big (q-low (found .2))) (pow-pos (found .1))
-    where
-      big : {q : ℕ} → 2 ^ 23 ≤ q → 0 < q
-      big {q} l = omega arith
-
   -- THE PROMISE: no other f32 is as near
   pub root-closest : Closest x (squareRoot x)
   root-closest =
@@ -60,12 +55,11 @@ module _ (x : Float) (F : T (fits binary32 x)) (P : T (positive x)) where
       record {
         held = subst (λ (w : Float). T (fits binary32 w)) (sym root-is) (units-fits (g .0) (g .1) (q-high (g .2)));
         value = subst (λ (r : ℕ). HasValue (squareRoot x) false r unity) (sym mag-root) root-val;
-        below = λ z t l. subst (λ (r : ℕ). sq (mag z + r) < 4 * (mag x * unity)) (sym mag-root) (nearest-below (g .2) (mag z) (digits-of z t) (subst (λ (r : ℕ). mag z < r) mag-root l));
-        above = λ z t l. subst (λ (r : ℕ). 4 * (mag x * unity) < sq (r + mag z)) (sym mag-root) (nearest-above (g .2) (mag z) (digits-of z t) (subst (λ (r : ℕ). r < mag z) mag-root l));
+        below = λ z t l. subst (λ (r : ℕ). sq (mag z + r) < 4 * (mag x * unity)) (sym mag-root)
+            (nearest-below (g .2) (mag z) (digits-of z t) (subst (λ (r : ℕ). mag z < r) mag-root l));
+        above = λ z t l. subst (λ (r : ℕ). 4 * (mag x * unity) < sq (r + mag z)) (sym mag-root)
+            (nearest-above (g .2) (mag z) (digits-of z t) (subst (λ (r : ℕ). r < mag z) mag-root l));
       }
-
-  pub root-positive : T (positive (squareRoot x))
-  root-positive = positive-of-value (squareRoot x) (found .0 * 2 ^ found .1) unity root-val root-pos
 
 -- the contract's second clause
 pub root-of : (x : Float) → T (fits binary32 x) → RootOf x (squareRoot x)
@@ -85,18 +79,18 @@ not-lt {a} {b} k = omega arith
 -- ---- one answer
 pub closest-only : (x y z : Float) → Closest x y → Closest x z → y ≡ z
 closest-only x y z c d =
-    let e : mag y ≡ mag z = same-size (mag y) (mag z) (4 * (mag x * unity)) (d .below y (c .held)) (c .above z (d .held)) (c .below z (d .held)) (d .above y (c .held)) in
+    let e : mag y ≡ mag z =
+    same-size (mag y) (mag z) (4 * (mag x * unity)) (d .below y (c .held)) (c .above z (d .held)) (c .below z (d .held))
+    (d .above y (c .held)) in
     one-value y z false (mag z) (c .held) (d .held) (subst (λ (r : ℕ). HasValue y false r unity) e (c .value)) (d .value)
   where
-    same-size : (a b m : ℕ) → (a < b → sq (a + b) < m) → (a < b → m < sq (a + b)) → (b < a → sq (b + a) < m) → (b < a → m < sq (b + a)) → a ≡ b
+    same-size : (a b m : ℕ) → (a < b → sq (a + b) < m) → (a < b → m < sq (a + b)) → (b < a → sq (b + a) < m) → (b < a → m < sq (b + a))
+        → a ≡ b
     same-size a b m f g i j =
         le-antisymm (not-lt (λ (u : b < a). clash (sq (b + a)) m (i u) (j u))) (not-lt (λ (u : a < b). clash (sq (a + b)) m (f u) (g u)))
       where
         clash : (s t : ℕ) → s < t → t < s → ⊥
         clash s t k l = omega arith
-
-pub only-root : (x y : Float) → T (fits binary32 x) → T (positive x) → Closest x y → y ≡ squareRoot x
-only-root x y F P c = closest-only x y (squareRoot x) c (root-closest x F P)
 
 -- ---- above zero, or not
 which : (x : Float) → T (positive x) ⊎ (T (positive x) → ⊥)
@@ -112,7 +106,8 @@ unfolding mag lo
 no-units nan l n = refl
 no-units (inf s) l n = refl
 no-units (fin true m e) l n = l
-no-units (fin false zero e) l n = ap (λ (y : ℕ). y * unity / down e) (zero-mul (up e)) ∙ ap (λ (y : ℕ). y / down e) (zero-mul unity) ∙ zero-div (down e)
+no-units (fin false zero e) l n =
+    ap (λ (y : ℕ). y * unity / down e) (zero-mul (up e)) ∙ ap (λ (y : ℕ). y / down e) (zero-mul unity) ∙ zero-div (down e)
 no-units (fin false (suc m) e) l n = absurd (n (lt→ltb 0 (suc m) (zero-lt-suc m)))
 
 root-no-units : (x : Float) → lo x ≡ 0 → (T (positive x) → ⊥) → mag (squareRoot x) ≡ 0
@@ -120,7 +115,8 @@ root-no-units x l n = ap mag (root-back x n) ∙ no-units x l n
 
 -- ---- the format holds it, and what is finite has a finite root
 pub root-fits : (x : Float) → T (fits binary32 x) → T (fits binary32 (squareRoot x))
-root-fits x F = elim (which x) [ inl P ↦ root-closest x F P .held | inr n ↦ subst (λ (w : Float). T (fits binary32 w)) (sym (root-back x n)) F ]
+root-fits x F = elim (which x)
+    [ inl P ↦ root-closest x F P .held | inr n ↦ subst (λ (w : Float). T (fits binary32 w)) (sym (root-back x n)) F ]
 
 value-finite : (x : Float) (s : Bool) (a c : ℕ) → HasValue x s a c → T (finite x)
 unfolding finite
@@ -151,10 +147,11 @@ Squared a r = ((2 ^ 22 - 1) * (a * unity) ≤ 2 ^ 22 * sq r) × (2 ^ 22 * sq r �
 pub root-square : (x : Float) → T (fits binary32 x) → lo x ≡ 0 → Squared (mag x) (mag (squareRoot x))
 root-square x F l = elim (which x) [
   | inl P ↦ let g = found x F P in subst (Squared (mag x)) (sym (mag-root x F P)) (square-low (g .2), square-high (g .2))
-  | inr n ↦ subst (λ (a : ℕ). Squared a (mag (squareRoot x))) (sym (no-units x l n)) (subst (Squared 0) (sym (root-no-units x l n)) (lit≤ tt, lit≤ tt))
+  | inr n ↦ subst (λ (a : ℕ). Squared a (mag (squareRoot x))) (sym (no-units x l n))
+      (subst (Squared 0) (sym (root-no-units x l n)) (lit≤ tt, lit≤ tt))
 ]
 
--- ---- bounds: a root is at most an f32 z where its number is at most the square of z, and at least z where that is at least it
+-- ---- a bound: a root is at most an f32 z where its number is at most the square of z
 twice : (a b n : ℕ) → a < b → sq (a + b) < 4 * n → n ≤ sq a → ⊥
 twice a b n h u v = let w : sq (a + a) ≤ sq (a + b) = sq-le (omega arith) in clash (sq (a + b)) (sq (a + a)) n (sq a) w u v (four a)
   where
@@ -164,40 +161,17 @@ twice a b n h u v = let w : sq (a + a) ≤ sq (a + b) = sq-le (omega arith) in c
     clash : (s t n q : ℕ) → t ≤ s → s < 4 * n → n ≤ q → t ≡ 4 * q → ⊥
     clash s t n q a b c d = omega arith
 
-twice' : (a b n : ℕ) → b < a → 4 * n < sq (b + a) → sq a ≤ n → ⊥
-twice' a b n h u v = let w : sq (b + a) ≤ sq (a + a) = sq-le (omega arith) in clash (sq (b + a)) (sq (a + a)) n (sq a) w u v (four a)
-  where
-    four : (a : ℕ) → sq (a + a) ≡ 4 * sq a
-    four a = omega arith
-
-    clash : (s t n q : ℕ) → s ≤ t → 4 * n < s → q ≤ n → t ≡ 4 * q → ⊥
-    clash s t n q a b c d = omega arith
-
-pub root-most : (x z : Float) → T (fits binary32 x) → lo x ≡ 0 → T (fits binary32 z) → mag x * unity ≤ sq (mag z) → mag (squareRoot x) ≤ mag z
+pub root-most : (x z : Float) → T (fits binary32 x) → lo x ≡ 0 → T (fits binary32 z) → mag x * unity ≤ sq (mag z)
+    → mag (squareRoot x) ≤ mag z
 root-most x z F l G h = elim (which x) [
-  | inl P ↦ not-lt (λ (u : mag z < mag (squareRoot x)). twice (mag z) (mag (squareRoot x)) (mag x * unity) u (root-closest x F P .below z G u) h)
+  | inl P ↦ not-lt (λ (u : mag z < mag (squareRoot x)). twice (mag z) (mag (squareRoot x)) (mag x * unity) u
+      (root-closest x F P .below z G u) h)
   | inr n ↦ le-trans (le-of-eq (root-no-units x l n)) zero-le
 ]
 
-pub root-least : (x z : Float) → T (fits binary32 x) → lo x ≡ 0 → T (fits binary32 z) → sq (mag z) ≤ mag x * unity → mag z ≤ mag (squareRoot x)
-root-least x z F l G h = elim (which x) [
-  | inl P ↦ not-lt (λ (u : mag (squareRoot x) < mag z). twice' (mag z) (mag (squareRoot x)) (mag x * unity) u (root-closest x F P .above z G u) h)
-  | inr n ↦ le-trans (none (mag z) (le-trans h (le-of-eq (ap (λ (w : ℕ). w * unity) (no-units x l n) ∙ zero-mul unity)))) zero-le
-]
-  where
-    none : (a : ℕ) → sq a ≤ 0 → a ≤ 0
-    none zero h = zero-le
-    none (suc a) h = absurd (omega arith)
-
--- where x is the square of z, the root is z
-pub root-of-square : (x z : Float) → T (fits binary32 x) → T (positive x) → T (fits binary32 z) → T (positive z) → mag x * unity ≡ sq (mag z) → squareRoot x ≡ z
-root-of-square x z F P G Q e =
-    let l : lo x ≡ 0 = lo-is x (mag x) 0 (plus-part binary32 x (mag x) (mag-value x F P)) in
-    let s : mag (squareRoot x) ≡ mag z = le-antisymm (root-most x z F l G (le-of-eq e)) (root-least x z F l G (le-of-eq (sym e))) in
-    one-value (squareRoot x) z false (mag z) (root-closest x F P .held) G (subst (λ (r : ℕ). HasValue (squareRoot x) false r unity) s (root-closest x F P .value)) (mag-value z G Q)
-
 -- ---- the order
-pub root-mag-mono : (x y : Float) → T (fits binary32 x) → T (fits binary32 y) → lo x ≡ 0 → lo y ≡ 0 → mag x ≤ mag y → mag (squareRoot x) ≤ mag (squareRoot y)
+pub root-mag-mono : (x y : Float) → T (fits binary32 x) → T (fits binary32 y) → lo x ≡ 0 → lo y ≡ 0 → mag x ≤ mag y
+    → mag (squareRoot x) ≤ mag (squareRoot y)
 root-mag-mono x y F G l k h = elim (which x) [
   | inr n ↦ le-trans (le-of-eq (root-no-units x l n)) zero-le
   | inl P ↦ elim (which y) [
@@ -206,54 +180,6 @@ root-mag-mono x y F G l k h = elim (which x) [
     | inr m ↦ absurd (lt-irrefl 0 (lt-of-lt-of-le (mag-pos x F P) (le-trans h (le-of-eq (no-units y k m)))))
   ]
 ]
-
--- what is not above zero has no positive part
-no-hi : (x : Float) → (T (positive x) → ⊥) → hi x ≡ 0
-unfolding hi
-no-hi nan n = refl
-no-hi (inf s) n = refl
-no-hi (fin true m e) n = refl
-no-hi (fin false zero e) n = ap (λ (y : ℕ). y * unity / down e) (zero-mul (up e)) ∙ ap (λ (y : ℕ). y / down e) (zero-mul unity) ∙ zero-div (down e)
-no-hi (fin false (suc m) e) n = absurd (n (lt→ltb 0 (suc m) (zero-lt-suc m)))
-
-own-parts : (x : Float) → T (fits binary32 x) → T (positive x) → Part binary32 x (mag x) 0
-own-parts x F P = plus-part binary32 x (mag x) (mag-value x F P)
-
-finite-units : (x : Float) → T (fits binary32 x) → T (finite x) → Units x
-finite-units x F t = single x (subst T (finite-is x) t) F .ok
-
--- over every finite number, what is below zero included
-pub root-mono : (x y : Float) → T (fits binary32 x) → T (fits binary32 y) → T (finite x) → T (finite y) → T (le x y) → T (le (squareRoot x) (squareRoot y))
-root-mono x y F G a b h = elim (which x) [
-  | inl P ↦
-      let px = own-parts x F P in
-      elim (which y) [
-        | inl Q ↦
-            let py = own-parts y G Q in
-            let m : mag x ≤ mag y = drop (le-part binary32 x y (mag x) 0 (mag y) 0 px py .0 h) in
-            let r : mag (squareRoot x) ≤ mag (squareRoot y) = root-mag-mono x y F G (lo-is x (mag x) 0 px) (lo-is y (mag y) 0 py) m in
-            le-values binary32 (squareRoot x) (squareRoot y) (mag (squareRoot x)) (mag (squareRoot y)) (root-closest x F P .value) (root-closest y G Q .value) .1 r
-        | inr n ↦
-            absurd (lt-irrefl 0 (lt-of-lt-of-le (mag-pos x F P) (none (mag x) (lo y) (hi y) (no-hi y n) (le-part binary32 x y (mag x) 0 (hi y) (lo y) px (finite-units y G b) .0 h))))
-      ]
-  | inr n ↦
-      subst (λ (w : Float). T (le w (squareRoot y))) (sym (root-back x n))
-      (elim (which y) [
-        | inl Q ↦
-            let r = squareRoot y in
-            le-part binary32 x r (hi x) (lo x) (mag r) 0 (finite-units x F a) (plus-part binary32 r (mag r) (root-closest y G Q .value)) .1 (still (hi x) (lo x) (mag r) (no-hi x n))
-        | inr m ↦ subst (λ (w : Float). T (le x w)) (sym (root-back y m)) h
-      ])
-]
-  where
-    drop : {a b : ℕ} → a + 0 ≤ 0 + b → a ≤ b
-    drop {a} {b} h = omega arith
-
-    none : (a l k : ℕ) → k ≡ 0 → a + l ≤ 0 + k → a ≤ 0
-    none a l k e h = omega arith
-
-    still : (i j r : ℕ) → i ≡ 0 → i + 0 ≤ j + r
-    still i j r e = omega arith
 
 -- ---- on document 01's table: at most 256
 unity-256 : 65536 * unity * unity ≤ sq (256 * unity)
@@ -266,7 +192,8 @@ pub root-high : (x : Float) → T (fits binary32 x) → T (permits rootArgument 
 unfolding two-fifty-six fits mag
 root-high x F h =
     let l : lo x ≡ 0 = permitted-above rootArgument 0 (65536 * unity) 0 root-argument-ends x F h .1 in
-    let m : mag x ≤ 65536 * unity = permitted-mag rootArgument 0 0 (65536 * unity) 0 root-argument-ends (65536 * unity) zero-le (lit≤ tt) x F h in
+    let m : mag x ≤ 65536 * unity =
+    permitted-mag rootArgument 0 0 (65536 * unity) 0 root-argument-ends (65536 * unity) zero-le (lit≤ tt) x F h in
     root-most x two-fifty-six F l tt (le-trans (mul-le-mul-right unity m) unity-256)
 
 -- ---- with a value in hand: x is a units and not below zero, and so is its root

@@ -1,7 +1,8 @@
 -- Powers of two, as `lift`, `radicand` and `root_bits` move them.
 use mathlib.Core.Path.{_≡_, refl, sym, ap, _∙_, subst}
 use Prim.Native.Nat.{ℕ, zero, suc, _+_, _-_, _*_, _/_, _%_, _^_, _≤_, _<_}
-use native.Mathlib.Nat.{le-trans, le-of-eq, lt-of-lt-of-le, lt-of-le-of-lt, lt-of-not-le, not-le-of-lt, mul-le-mul-right, mul-assoc, mod-eq-of-lt}
+use native.Mathlib.Nat.{le-trans, le-of-eq, lt-of-lt-of-le, lt-of-le-of-lt, lt-of-not-le}
+use native.Mathlib.Nat.{not-le-of-lt, mul-le-mul-right, mul-assoc, mod-eq-of-lt}
 use native.Mathlib.Omega.{arith}
 use lib.Count.{leadingZeros, leading-top}
 use lib.Dec.{lit≤}
@@ -14,7 +15,8 @@ pub lifted : (t m z : ℕ) → m ≡ t * 2 ^ z → 8388608 ≤ m → m < 1677721
 lifted t m z e l h k =
     let j : z + (149 - z) ≡ 149 = omega arith in
     record {
-      same = ap (λ (x : ℕ). t * 2 ^ x) (sym j) ∙ ap (λ (x : ℕ). t * x) (pow-add 2 z (149 - z)) ∙ sym (mul-assoc t (2 ^ z) (2 ^ (149 - z))) ∙ ap (λ (x : ℕ). x * 2 ^ (149 - z)) (sym e);
+      same = ap (λ (x : ℕ). t * 2 ^ x) (sym j) ∙ ap (λ (x : ℕ). t * x) (pow-add 2 z (149 - z)) ∙ sym (mul-assoc t (2 ^ z) (2 ^ (149 - z)))
+          ∙ ap (λ (x : ℕ). x * 2 ^ (149 - z)) (sym e);
       m-low = l;
       m-high = h;
       p-low = omega arith;
@@ -36,7 +38,8 @@ zeros t p h =
     let J : j < 23 = pow-lt-back j 23 (lt-of-le-of-lt (w .2) h) in
     let a : j + (z - 8) ≡ 23 = omega arith in
     let b : suc j + (z - 8) ≡ 24 = omega arith in
-    let L : 8388608 ≤ t * 2 ^ (z - 8) = le-trans (le-of-eq (ap (λ (y : ℕ). 2 ^ y) (sym a) ∙ pow-add 2 j (z - 8))) (mul-le-mul-right (2 ^ (z - 8)) (w .2)) in
+    let L : 8388608 ≤ t * 2 ^ (z - 8) =
+    le-trans (le-of-eq (ap (λ (y : ℕ). 2 ^ y) (sym a) ∙ pow-add 2 j (z - 8))) (mul-le-mul-right (2 ^ (z - 8)) (w .2)) in
     let H : t * 2 ^ (z - 8) < 16777216 = lt-of-lt-of-le (shl-lt (suc j) (z - 8) (w .3)) (le-of-eq (ap (λ (y : ℕ). 2 ^ y) b)) in
     let Z : z - 8 ≤ 23 = omega arith in
     let m : t * 2 ^ (z - 8) % 4294967296 ≡ t * 2 ^ (z - 8) = mod-eq-of-lt (lt-of-lt-of-le H (lit≤ tt)) in
@@ -63,7 +66,9 @@ even m p l h o =
     record {
       same = λ k.
           let x : p ≡ 23 + (i + i) = half p o k in
-          mul-assoc m 8388608 (sq (2 ^ i)) ∙ ap (λ (y : ℕ). m * y) (ap (λ (y : ℕ). 2 ^ 23 * y) (sym (pow-add 2 i i)) ∙ sym (pow-add 2 23 (i + i)) ∙ ap (λ (y : ℕ). 2 ^ y) (sym x));
+          mul-assoc m 8388608 (sq (2 ^ i))
+          ∙ ap (λ (y : ℕ). m * y)
+          (ap (λ (y : ℕ). 2 ^ 23 * y) (sym (pow-add 2 i i)) ∙ sym (pow-add 2 23 (i + i)) ∙ ap (λ (y : ℕ). 2 ^ y) (sym x));
       r-low = omega arith;
       r-high = omega arith;
     }
@@ -77,7 +82,9 @@ uneven m p l h n =
     record {
       same = λ k.
           let x : p ≡ 24 + (i + i) = half p (zero-left p n) k in
-          mul-assoc m 16777216 (sq (2 ^ i)) ∙ ap (λ (y : ℕ). m * y) (ap (λ (y : ℕ). 2 ^ 24 * y) (sym (pow-add 2 i i)) ∙ sym (pow-add 2 24 (i + i)) ∙ ap (λ (y : ℕ). 2 ^ y) (sym x));
+          mul-assoc m 16777216 (sq (2 ^ i))
+          ∙ ap (λ (y : ℕ). m * y)
+          (ap (λ (y : ℕ). 2 ^ 24 * y) (sym (pow-add 2 i i)) ∙ sym (pow-add 2 24 (i + i)) ∙ ap (λ (y : ℕ). 2 ^ y) (sym x));
       r-low = omega arith;
       r-high = omega arith;
     }
@@ -99,7 +106,8 @@ field-more zero t h k n = absurd (n refl)
 field-more (suc x) t h k n =
     let e : 148 + suc x ≡ x + 149 = omega arith in
     record {
-      same = mul-assoc (8388608 + t) (2 ^ x) (2 ^ 149) ∙ ap (λ (y : ℕ). (8388608 + t) * y) (sym (pow-add 2 x 149) ∙ ap (λ (y : ℕ). 2 ^ y) (sym e));
+      same = mul-assoc (8388608 + t) (2 ^ x) (2 ^ 149)
+          ∙ ap (λ (y : ℕ). (8388608 + t) * y) (sym (pow-add 2 x 149) ∙ ap (λ (y : ℕ). 2 ^ y) (sym e));
       m-low = omega arith;
       m-high = omega arith;
       p-low = omega arith;

@@ -1,7 +1,7 @@
 // The root behind the door, total on every value, for the rooms above.
 use crate::digits;
 ghost use mathlib.Core.Path.{_≡_};
-ghost use Rattle.roots.specs.Root.{squareRoot};
+ghost use Rattle.roots.specs.How.{squareRoot};
 
 // The f32 nearest to the root of x, where x is finite and above zero. Any other x comes back as it
 // is: a zero is its own root, and what is negative, infinite or NaN has none here.

@@ -6,7 +6,8 @@ ghost use mathlib.Core.Path.{_≡_};
 ghost use lib.Ieee.{Float};
 ghost use Rattle.numbers.specs.Answers.{told};
 ghost use Rattle.numbers.specs.declared.Answer.the-variants.{Value};
-ghost use Rattle.roots.specs.Root.{squareRootTold, RootOf};
+ghost use Rattle.roots.specs.Entries.{squareRootTold};
+ghost use Rattle.roots.specs.Root.{RootOf};
 
 pub mod core;
 mod digits;

@@ -144,13 +144,22 @@ fn arc_at(t: u32) -> Arc
     }
 }
 
-// Near to the root whose row is t, f of 2^17 parts along it: a parabola through three points.
+// The parts of a row.
+const PARTS: u64 = 0x2_0000;
+
+// A whole of the root, in the parts of its 256ths that the parabola is computed in.
+const WHOLE: u64 = 256 * PARTS;
+
+// Half of it, so that the division rounds.
+const HALF: u64 = WHOLE / 2;
+
+// Near to the root whose row is t, f parts along it: a parabola through three points.
 pub fn guess(t: u32, f: u32) -> u64
-    requires { ⌜ f < 131072 ⌝ }
+    requires { ⌜ f < 2 ^ 17 ⌝ }
     ensures { λ r. ⌜ r < 2 ^ 26 ⌝ }
 {
     let a = arc_at(t);
     let f = f as u64;
-    let risen = a.0 as u64 * 131072 + 16777216 + f * a.1 as u64;
-    (risen - f * f / 131072 * a.2 as u64) / 33554432
+    let risen = a.0 as u64 * PARTS + HALF + f * a.1 as u64;
+    (risen - f * f / PARTS * a.2 as u64) / WHOLE
 }

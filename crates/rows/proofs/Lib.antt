@@ -1,7 +1,6 @@
-pub mod Counting
-pub mod Answered
+mod Counting
+mod Answered
 pub mod OneAnswer
 mod Reading
-mod Cases
 mod Pieces
 mod Lending

@@ -1,4 +1,5 @@
--- No second answer fits the promise of an update, refused or not, and no second row: the lent one holds at the end what it held.
+-- No second answer fits the promise of an update, refused or not, and no second row: the lent one holds at the end what it
+-- held. Assumes nothing.
 use mathlib.Core.Path.{_≡_, sym, _∙_}
 use mathlib.Core.List.{List}
 use Prim.Native.Nat.{ℕ}
@@ -8,11 +9,9 @@ use Rattle.legs.specs.Answers.{told}
 use Rattle.legs.specs.declared.Point.{Point}
 use Rattle.legs.specs.declared.Feet.{Feet}
 use Rattle.legs.specs.declared.Planned.{Planned}
-use Rattle.rows.specs.Rows.{updateTold}
+use Rattle.rows.specs.Rows.{UpdateOf}
 
--- the contract of `updated_from_selected_legs`, over what is lent, the answer, and what the row holds at the end
-abbrev pub Updated : Feet → List Point → ℕ → Planned → List Point → Type 0
-Updated f lent m r left = (told r ≡ updateTold f lent m) × (left ≡ lent)
-
-pub one-update : (f : Feet) (lent : List Point) (m : ℕ) (a b : Planned) (left right : List Point) → Updated f lent m a left → Updated f lent m b right → (a ≡ b) × (left ≡ right)
+-- `UpdateOf` is what `updated_from_selected_legs` promises
+pub one-update : (f : Feet) (lent : List Point) (m : ℕ) (a b : Planned) (left right : List Point)
+    → UpdateOf f lent m a left → UpdateOf f lent m b right → (a ≡ b) × (left ≡ right)
 one-update f lent m a b left right p q = (one-answer told told-loses-nothing a b (p .0) (q .0), p .1 ∙ sym (q .1))

@@ -1,4 +1,5 @@
--- A row is read point by point: what is remembered with one point more, and with all of them; and what stands in the six places.
+-- A row is read point by point: what is remembered with one point more, and with all of them; and what stands in the six
+-- places.
 use mathlib.Core.Path.{_≡_, refl, sym, ap, _∙_}
 use mathlib.Core.Bool.{Bool, true, false, _&&_, and-assoc, and-true}
 use mathlib.Core.List.{List, [], _∷_, _++_, append-assoc}
@@ -10,12 +11,11 @@ use lib.Dec.{ltb}
 use lib.ListN.{length, getD, take, set, replicate, length-append, length-take, List·getD-append}
 use lib.Seq.{take-all, take-suc, take-append-le, length-take-le, getD-take, set-append-seam}
 use Rattle.numbers.specs.Told.{choose}
-use Rattle.numbers.specs.Limits.{foot as footLimit}
+use Rattle.numbers.specs.Limits.{footLimit}
 use Rattle.legs.specs.Legs.{origin, finitePoint, permittedPoint}
-use Rattle.legs.specs.Select.{inSix}
 use Rattle.legs.specs.declared.Point.{Point}
 use Rattle.rows.specs.Rows.{everyPoint}
-use Rattle.rows.specs.How.{firstSix, seenOf, noted}
+use Rattle.rows.specs.How.{inSix, firstSix, seenOf, noted}
 
 every-next : (t : Point → Bool) (xs : List Point) (p : Point) → (everyPoint t xs && t p) ≡ everyPoint t (xs ++ p ∷ [])
 unfolding everyPoint
@@ -36,7 +36,8 @@ free-place xs p h =
     ∙ sym (append-assoc xs (p ∷ []) (replicate (5 - length xs) origin))
     ∙ ap (λ (j : ℕ). (xs ++ p ∷ []) ++ replicate j origin) (sym k)
 
-placed-next : (xs : List Point) (p : Point) (t : Bool) → ltb (length xs) 6 ≡ t → choose t (set (firstSix xs) (length xs) p) (firstSix xs) ≡ firstSix (xs ++ p ∷ [])
+placed-next : (xs : List Point) (p : Point) (t : Bool) → ltb (length xs) 6 ≡ t
+    → choose t (set (firstSix xs) (length xs) p) (firstSix xs) ≡ firstSix (xs ++ p ∷ [])
 placed-next xs p true e =
     let h : length xs < 6 = ltb-true (length xs) 6 e in
     let l : length (xs ++ p ∷ []) ≤ 6 = simp length-append (omega arith) in

@@ -1,5 +1,6 @@
 -- Document 01: "`updated_from_selected_legs` takes a lent row of foot points, as many as legs selected, in that order."
 use Prim.Native.Nat.{ℕ}
+use mathlib.Core.Path.{_≡_}
 use mathlib.Core.Bool.{Bool, true, _&&_}
 use mathlib.Core.List.{List, [], _∷_}
 use lib.Dec.{eqb, ltb}
@@ -7,19 +8,21 @@ use lib.Count.{ones}
 use lib.ListN.{length}
 use Rattle.numbers.specs.Told.{Told, answer}
 use Rattle.numbers.specs.Door.{unless, when, firstOf}
-use Rattle.numbers.specs.Limits.{maskTo, foot as footLimit}
+use Rattle.numbers.specs.Limits.{maskTo, footLimit}
 use Rattle.legs.specs.Legs.{finitePoint, permittedPoint, finiteFeet, permittedFeet}
-use Rattle.legs.specs.Answers.{givenFeet}
+use Rattle.legs.specs.Answers.{told, givenFeet}
 use Rattle.legs.specs.Update.{updated}
 use Rattle.legs.specs.declared.Point.{Point}
 use Rattle.legs.specs.declared.Feet.{Feet}
+use Rattle.legs.specs.declared.Planned.{Planned}
 
 -- whether all points of a row pass, whatever its length
 unfoldable pub everyPoint : (Point → Bool) → List Point → Bool
 everyPoint t [] = true
 everyPoint t (p ∷ ps) = t p && everyPoint t ps
 
--- 1: a float is NaN or infinite; 2: one is outside the table; 4: the mask is above 63; 5: "number of values differs from the number of one bits in the mask"
+-- 1: a float is NaN or infinite; 2: one is outside the table; 4: the mask is above 63;
+-- 5: "number of values differs from the number of one bits in the mask"
 unfoldable pub updateRefusal : Feet → List Point → ℕ → ℕ
 updateRefusal f ps m =
     firstOf
@@ -31,3 +34,8 @@ updateRefusal f ps m =
 
 unfoldable pub updateTold : Feet → List Point → ℕ → Told
 updateTold f ps m = answer (updateRefusal f ps m) (givenFeet (updated f ps m))
+
+-- the promise of an update of these feet, by this lent row and mask: what its answer tells, and that the row holds after it
+-- what it held ("every row .. that was lent holds what it held")
+abbrev pub UpdateOf : Feet → List Point → ℕ → Planned → List Point → Type 0
+UpdateOf f lent m r after = (told r ≡ updateTold f lent m) × (after ≡ lent)

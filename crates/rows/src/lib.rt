@@ -8,15 +8,14 @@ ghost use mathlib.Core.Path.{_≡_};
 ghost use Prim.Native.Nat.{_≤_};
 ghost use lib.ListN.{take};
 ghost use Rattle.legs.specs.Answers.{told};
-ghost use Rattle.rows.specs.Rows.{updateTold};
+ghost use Rattle.rows.specs.Rows.{updateTold, UpdateOf};
 
 mod seen;
 
 // The flagged legs take the lent points in row order, the others stay; every lent point is looked
 // at, also one past the sixth.
 pub fn updated_from_selected_legs(feet: Feet, values: &[Point], mask: u32) -> Planned
-    ensures { λ r. ⌜ (told r ≡ updateTold feet (now (values .entry)) mask)
-        × (now (values .exit) ≡ now (values .entry)) ⌝ }
+    ensures { λ r. ⌜ UpdateOf feet (now (values .entry)) mask r (now (values .exit)) ⌝ }
 {
     let mut seen = seen::none();
     let mut i = 0;

@@ -5,11 +5,8 @@ use legs::Point;
 use numbers::door;
 ghost use mathlib.Core.Path.{_≡_};
 ghost use mathlib.Core.List.{[]};
-ghost use lib.Dec.{eqb};
-ghost use lib.Count.{ones};
 ghost use Rattle.legs.specs.Answers.{told};
-ghost use Rattle.numbers.specs.Door.{unless};
-ghost use Rattle.rows.specs.How.{seenOf, placed, noted, seenRefusal, seenTold};
+ghost use Rattle.rows.specs.How.{seenOf, placed, noted, countRefusal, seenRefusal, seenTold};
 
 // The first six points, +0 where there are fewer, and whether all points so far may come in.
 pub struct Seen {
@@ -51,7 +48,7 @@ fn placed(row: [Point; 6], i: usize, p: Point) -> [Point; 6]
 pub fn noted(seen: Seen, i: usize, p: Point) -> Seen
     ensures { λ r. ⌜ r ≡ noted seen i p ⌝ }
 {
-    let limit = numbers::limits::foot();
+    let limit = numbers::limits::foot_limit();
     let before = seen.row;
     let row = placed(before, i, p);
     Seen {
@@ -61,24 +58,29 @@ pub fn noted(seen: Seen, i: usize, p: Point) -> Seen
     }
 }
 
-// 5 where the number of points is not the mask's count of ones, else 0.
+// 4 for a mask that names more than six legs, 5 where the number of points is not its count of ones, else 0.
 fn count_refused(n: usize, mask: u32) -> u32
-    ensures { λ r. ⌜ r ≡ unless (eqb n (ones mask)) 5 ⌝ }
+    ensures { λ r. ⌜ r ≡ countRefusal n mask ⌝ }
 {
-    let needed = u32::count_ones(mask) as usize;
-    door::unless(n == needed, 5)
+    let above = legs::core::mask_refused(mask);
+    if above == 0 {
+        let needed = u32::count_ones(mask) as usize;
+        door::unless(n == needed, 5)
+    } else {
+        above
+    }
 }
 
 // Why an update by n points is refused: the lowest number that applies, or 0.
 fn refused(feet: Feet, seen: Seen, n: usize, mask: u32) -> u32
     ensures { λ r. ⌜ r ≡ seenRefusal feet seen n mask ⌝ }
 {
-    let limit = numbers::limits::foot();
-    let finite = legs::core::feet_finite(feet) & seen.finite;
-    let permitted = legs::core::feet_permitted(limit, feet) & seen.permitted;
-    let above = legs::core::mask_refused(mask);
-    let differs = count_refused(n, mask);
-    door::first_of(finite, permitted, door::either(above, differs))
+    let limit = numbers::limits::foot_limit();
+    if legs::core::feet_permitted(limit, feet) & seen.permitted {
+        count_refused(n, mask)
+    } else {
+        door::outside(legs::core::feet_finite(feet) & seen.finite)
+    }
 }
 
 // The answer to an update by n points, once all are read.

@@ -1,5 +1,6 @@
 pub mod Order
 pub mod Fractions
+pub mod Values
 pub mod Tables
 pub mod Polynomials
 pub mod Bivariate
@@ -13,6 +14,5 @@ pub mod Octant
 pub mod Circle
 pub mod AtMostOne
 pub mod Unit
-pub mod Bounded
 pub mod Reflect
 pub mod Half

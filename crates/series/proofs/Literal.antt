@@ -1,14 +1,14 @@
 -- Document 01's sums are the working ones: S at x / n is (ev n x sinP - ev n x sinM) / (63! n ^ 63), and C likewise. Assumes nothing.
-use mathlib.Core.Path.{_≡_, refl, sym, ap, ap₂, _∙_, subst}
+use mathlib.Core.Path.{_≡_, sym, ap, ap₂, _∙_, subst}
 use mathlib.Core.Bool.{Bool, true, false}
 use mathlib.Core.List.{List, [], _∷_}
 use Prim.Native.Nat.{ℕ, zero, suc, _+_, _-_, _*_, _/_, _^_, _≤_, _<_}
-use native.Mathlib.Nat.{mul-zero, mul-one, one-mul, mul-pos, pow-suc, pow-succ', pow-zero, sub-add-cancel, one-le-pow}
+use native.Mathlib.Nat.{mul-zero, one-mul, mul-pos, pow-suc, pow-succ', pow-zero, sub-add-cancel, one-le-pow}
 use native.Mathlib.Omega.{arith}
 use lib.Dec.{T, eqb, eqb→eq, lit<}
 use lib.ListN.{length}
 use lib.Pow.{pow-add}
-use Rattle.series.specs.Fractions.{Fraction, _÷_, whole, negative, _⊖_, _⊗_, _≋_}
+use Rattle.series.specs.Fractions.{Fraction, _÷_, _⊖_, _⊗_, _≋_}
 use Rattle.series.specs.Series.{factorial, power, term, alternating, S, C}
 use Rattle.series.specs.Working.{pw, ev, sinP, sinM, cosP, cosM, denominator}
 use Rattle.series.proofs.Tables.{every, at}
@@ -97,22 +97,27 @@ term-is : (x n i : ℕ) → i ≤ 63 → term (x ÷ n) i ≋ part n x i ÷ denom
 unfolding denominator
 term-is x n i h =
     subst (λ (f : Fraction). f ⊗ 1 ÷ factorial i ≋ part n x i ÷ (factorial 63 * n ^ 63)) (sym (power-is x n i))
-    (go (factorial 63) (factorial i) (factorial 63 / factorial i) (x ^ i) (n ^ i) (n ^ (63 - i)) (n ^ 63) (quotient i h) (sym (pow-add n (63 - i) i) ∙ ap (λ (k : ℕ). n ^ k) (sub-add-cancel h)))
+    (go (factorial 63) (factorial i) (factorial 63 / factorial i) (x ^ i) (n ^ i) (n ^ (63 - i)) (n ^ 63) (quotient i h)
+    (sym (pow-add n (63 - i) i) ∙ ap (λ (k : ℕ). n ^ k) (sub-add-cancel h)))
   where
-    go : (F f q X N N' W : ℕ) → q * f ≡ F → N' * N ≡ W → (X * 1 + 0 * 0) * (F * W) + 0 * (N * f) ≡ q * X * N' * (N * f) + (X * 0 + 0 * 1) * (F * W)
+    go : (F f q X N N' W : ℕ) → q * f ≡ F → N' * N ≡ W
+        → (X * 1 + 0 * 0) * (F * W) + 0 * (N * f) ≡ q * X * N' * (N * f) + (X * 0 + 0 * 1) * (F * W)
     go F f q X N N' W e g = rw (← e, ← g) (omega arith)
 
 pub denominator-pos : (n : ℕ) → 0 < n → 0 < denominator n
 unfolding denominator factorial
 denominator-pos n h = mul-pos (lit< {m = 0} {n = factorial 63} tt) (one-le-pow 63 n h)
 
-alternating-is : (x n : ℕ) → 0 < n → (k i : ℕ) → i + 2 * k ≤ 65 → alternating k (x ÷ n) i ≋ record { plus = sums true n x k i; minus = sums false n x k i; over = denominator n }
+alternating-is : (x n : ℕ) → 0 < n → (k i : ℕ) → i + 2 * k ≤ 65
+    → alternating k (x ÷ n) i ≋ record { plus = sums true n x k i; minus = sums false n x k i; over = denominator n }
 unfolding alternating
 alternating-is x n h zero i l = omega arith
 alternating-is x n h (suc k) i l =
-    same-trans (term (x ÷ n) i ⊖ alternating k (x ÷ n) (i + 2)) (a ⊖ b) (record { plus = sums true n x (suc k) i; minus = sums false n x (suc k) i; over = d })
+    same-trans (term (x ÷ n) i ⊖ alternating k (x ÷ n) (i + 2)) (a ⊖ b)
+    (record { plus = sums true n x (suc k) i; minus = sums false n x (suc k) i; over = d })
     (mul-pos (denominator-pos n h) (denominator-pos n h))
-    (difference-same (term (x ÷ n) i) a (alternating k (x ÷ n) (i + 2)) b (term-is x n i (few i k l)) (alternating-is x n h k (i + 2) (rest i k l)))
+    (difference-same (term (x ÷ n) i) a (alternating k (x ÷ n) (i + 2)) b (term-is x n i (few i k l))
+    (alternating-is x n h k (i + 2) (rest i k l)))
     (go (part n x i) (sums true n x k (i + 2)) (sums false n x k (i + 2)) d)
   where
     d : ℕ

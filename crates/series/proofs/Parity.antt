@@ -1,16 +1,17 @@
--- S is odd and C is even, the same number gives the same sum, and what the sums are at a difference of whole numbers over n. Assumes nothing.
+-- S is odd and C is even, the same number gives the same sum, and what the sums are at a difference of whole numbers over n. Assumes
+-- nothing.
 use mathlib.Core.Path.{_≡_, refl, sym, ap, ap₂, _∙_, subst}
-use mathlib.Core.Logic.{_⊎_, inl, inr}
-use mathlib.Core.List.{List, [], _∷_}
+use mathlib.Core.Logic.{inl, inr}
+use mathlib.Core.List.{List, _∷_}
 use Prim.Native.Nat.{ℕ, zero, suc, _+_, _-_, _*_, _≤_, _<_}
 use native.Mathlib.Nat.{add-comm, add-zero, zero-add, zero-mul, mul-pos}
 use native.Mathlib.Numerals.{add-two}
 use native.Mathlib.Omega.{arith}
-use Rattle.series.specs.Fractions.{Fraction, _÷_, whole, negative, _⊖_, _⊗_, _≋_}
+use Rattle.series.specs.Fractions.{Fraction, _÷_, negative, _⊖_, _⊗_, _≋_}
 use Rattle.series.specs.Series.{factorial, power, term, alternating, S, C}
 use Rattle.series.specs.Working.{pw, ev, sinP, sinM, cosP, cosM, denominator}
 use Rattle.series.proofs.Fractions.{same-trans, difference-same, product-same, negative-same}
-use Rattle.series.proofs.Literal.{S-is, C-is, denominator-pos}
+use Rattle.series.proofs.Literal.{S-is, C-is}
 use Rattle.series.proofs.Order.{here-or-on}
 
 -- ---- the sign
@@ -26,12 +27,14 @@ triple p m d = record { plus = p; minus = m; over = d }
 product-negative : (a b : Fraction) → negative a ⊗ b ≡ negative (a ⊗ b)
 unfolding triple
 product-negative a b =
-    ap₂ (λ (p m : ℕ). triple p m (a .over * b .over)) (add-comm (a .minus * b .plus) (a .plus * b .minus)) (add-comm (a .minus * b .minus) (a .plus * b .plus))
+    ap₂ (λ (p m : ℕ). triple p m (a .over * b .over)) (add-comm (a .minus * b .plus) (a .plus * b .minus))
+    (add-comm (a .minus * b .minus) (a .plus * b .plus))
 
 product-negatives : (a b : Fraction) → negative a ⊗ negative b ≡ a ⊗ b
 unfolding triple
 product-negatives a b =
-    ap₂ (λ (p m : ℕ). triple p m (a .over * b .over)) (add-comm (a .minus * b .minus) (a .plus * b .plus)) (add-comm (a .minus * b .plus) (a .plus * b .minus))
+    ap₂ (λ (p m : ℕ). triple p m (a .over * b .over)) (add-comm (a .minus * b .minus) (a .plus * b .plus))
+    (add-comm (a .minus * b .plus) (a .plus * b .minus))
 
 then-odd : (x : Fraction) (i : ℕ) → Even x i → Odd x (suc i)
 unfolding power
@@ -131,17 +134,20 @@ unfolding sinP sinM
 ev-zero-sin n = (ev-none n _, ev-none n _)
 
 module _ (p m n : ℕ) (h : 0 < n) where
-  pub S-parts : S (difference p m n) ≋ difference (ev n (p - m) sinP + ev n (m - p) sinM) (ev n (p - m) sinM + ev n (m - p) sinP) (denominator n)
+  pub S-parts : S (difference p m n) ≋ difference (ev n (p - m) sinP + ev n (m - p) sinM) (ev n (p - m) sinM + ev n (m - p) sinP)
+      (denominator n)
   S-parts =
       same-trans (S (difference p m n)) (S (difference (p - m) (m - p) n)) _ (S-over (difference (p - m) (m - p) n) h)
       (S-same (difference p m n) (difference (p - m) (m - p) n) (apart p m n)) (elim (here-or-on p m) [ inl l ↦ below l | inr l ↦ above l ])
     where
-      above : m ≤ p → S (difference (p - m) (m - p) n) ≋ difference (ev n (p - m) sinP + ev n (m - p) sinM) (ev n (p - m) sinM + ev n (m - p) sinP) (denominator n)
+      above : m ≤ p → S (difference (p - m) (m - p) n) ≋ difference (ev n (p - m) sinP + ev n (m - p) sinM)
+          (ev n (p - m) sinM + ev n (m - p) sinP) (denominator n)
       above l =
           let z : m - p ≡ 0 = omega arith in
           rw (z, ev-zero-sin n .0, ev-zero-sin n .1, add-zero (ev n (p - m) sinP), add-zero (ev n (p - m) sinM)) (S-is (p - m) n h)
 
-      below : p < m → S (difference (p - m) (m - p) n) ≋ difference (ev n (p - m) sinP + ev n (m - p) sinM) (ev n (p - m) sinM + ev n (m - p) sinP) (denominator n)
+      below : p < m → S (difference (p - m) (m - p) n) ≋ difference (ev n (p - m) sinP + ev n (m - p) sinM)
+          (ev n (p - m) sinM + ev n (m - p) sinP) (denominator n)
       below l =
           let z : p - m ≡ 0 = omega arith in
           rw (z, ev-zero-sin n .0, ev-zero-sin n .1, zero-add (ev n (m - p) sinP), zero-add (ev n (m - p) sinM), S-odd ((m - p) ÷ n))
@@ -152,12 +158,14 @@ module _ (p m n : ℕ) (h : 0 < n) where
       same-trans (C (difference p m n)) (C (difference (p - m) (m - p) n)) _ (C-over (difference (p - m) (m - p) n) h)
       (C-same (difference p m n) (difference (p - m) (m - p) n) (apart p m n)) (elim (here-or-on p m) [ inl l ↦ below l | inr l ↦ above l ])
     where
-      above : m ≤ p → C (difference (p - m) (m - p) n) ≋ difference (ev n (p - m + (m - p)) cosP) (ev n (p - m + (m - p)) cosM) (denominator n)
+      above : m ≤ p → C (difference (p - m) (m - p) n) ≋ difference (ev n (p - m + (m - p)) cosP) (ev n (p - m + (m - p)) cosM)
+          (denominator n)
       above l =
           let z : m - p ≡ 0 = omega arith in
           rw (z, add-zero (p - m)) (C-is (p - m) n h)
 
-      below : p < m → C (difference (p - m) (m - p) n) ≋ difference (ev n (p - m + (m - p)) cosP) (ev n (p - m + (m - p)) cosM) (denominator n)
+      below : p < m → C (difference (p - m) (m - p) n) ≋ difference (ev n (p - m + (m - p)) cosP) (ev n (p - m + (m - p)) cosM)
+          (denominator n)
       below l =
           let z : p - m ≡ 0 = omega arith in
           rw (z, zero-add (m - p), C-even ((m - p) ÷ n)) (C-is (m - p) n h)

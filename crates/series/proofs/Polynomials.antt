@@ -1,9 +1,10 @@
--- Polynomials with natural coefficients, lowest first: sums, products, moving the argument on and back, and the order of two from one computed test. Assumes nothing.
-use Prim.Native.Nat.{ℕ, zero, suc, _+_, _*_, _-_, _≤_, _<_}
+-- Polynomials with natural coefficients, lowest first: sums, products, moving the argument on and back, and the order of two from one
+-- computed test. Assumes nothing.
+use Prim.Native.Nat.{ℕ, _+_, _*_, _-_, _≤_}
 use mathlib.Core.Path.{_≡_, refl, sym, ap, _∙_}
-use mathlib.Core.Bool.{Bool, true, false}
+use mathlib.Core.Bool.{Bool}
 use mathlib.Core.List.{List, [], _∷_}
-use native.Mathlib.Nat.{mul-comm, mul-assoc, mul-left-comm, add-mul, mul-add, add-comm, add-left-comm, add-assoc, one-mul, zero-mul, mul-zero, zero-add, add-zero, le-refl, mul-le-mul, add-le-add}
+use native.Mathlib.Nat.{mul-assoc, mul-left-comm, add-mul, mul-add, zero-mul, mul-zero, zero-add, add-zero, le-refl, mul-le-mul, add-le-add}
 use native.Mathlib.Omega.{arith}
 use lib.Dec.{T, leb, leb→le}
 use Rattle.series.specs.Working.{pw, ev}
@@ -36,7 +37,43 @@ ev-scale k (a ∷ ps) n = rw (ev-scale k ps n, mul-add k a (n * eval ps n), mul-
 
 pub ev-mul : (p q : List ℕ) (n : ℕ) → eval (mulP p q) n ≡ eval p n * eval q n
 ev-mul [] q n = sym (zero-mul (eval q n))
-ev-mul (a ∷ ps) q n = rw (ev-add (scale a q) (0 ∷ mulP ps q) n, ev-scale a q n, ev-mul ps q n, add-mul a (n * eval ps n) (eval q n), mul-assoc n (eval ps n) (eval q n), zero-add (n * (eval ps n * eval q n))) refl
+ev-mul (a ∷ ps) q n =
+    rw (
+      ev-add (scale a q) (0 ∷ mulP ps q) n,
+      ev-scale a q n,
+      ev-mul ps q n,
+      add-mul a (n * eval ps n) (eval q n),
+      mul-assoc n (eval ps n) (eval q n),
+      zero-add (n * (eval ps n * eval q n)),
+    ) refl
+
+-- the two sides of (c - d)^2 + (s - t)^2: what is added, and what is taken away
+abbrev pub squaresP : List ℕ → List ℕ → List ℕ → List ℕ → List ℕ
+squaresP c d s t = addP (addP (mulP c c) (mulP d d)) (addP (mulP s s) (mulP t t))
+
+abbrev pub productsP : List ℕ → List ℕ → List ℕ → List ℕ → List ℕ
+productsP c d s t = addP (scale 2 (mulP c d)) (scale 2 (mulP s t))
+
+module _ (c d s t : List ℕ) (n : ℕ) where
+  pub ev-squares : eval (squaresP c d s t) n ≡ eval c n * eval c n + eval d n * eval d n + (eval s n * eval s n + eval t n * eval t n)
+  ev-squares = rw (
+    ev-add (addP (mulP c c) (mulP d d)) (addP (mulP s s) (mulP t t)) n,
+    ev-add (mulP c c) (mulP d d) n,
+    ev-add (mulP s s) (mulP t t) n,
+    ev-mul c c n,
+    ev-mul d d n,
+    ev-mul s s n,
+    ev-mul t t n,
+  ) refl
+
+  pub ev-products : eval (productsP c d s t) n ≡ 2 * (eval c n * eval d n) + 2 * (eval s n * eval t n)
+  ev-products = rw (
+    ev-add (scale 2 (mulP c d)) (scale 2 (mulP s t)) n,
+    ev-scale 2 (mulP c d) n,
+    ev-scale 2 (mulP s t) n,
+    ev-mul c d n,
+    ev-mul s t n,
+  ) refl
 
 pub ev-mono : (p : List ℕ) {m n : ℕ} → m ≤ n → eval p m ≤ eval p n
 ev-mono [] h = le-refl 0
@@ -81,7 +118,16 @@ shift t (a ∷ ps) = addP (a ∷ []) (times t (shift t ps))
 pub ev-shift : (t : ℕ) (p : List ℕ) (w : ℕ) → eval (shift t p) w ≡ eval p (t + w)
 ev-shift t [] w = refl
 ev-shift t (a ∷ ps) w =
-    rw (ev-add (a ∷ []) (times t (shift t ps)) w, ev-add (scale t (shift t ps)) (0 ∷ shift t ps) w, ev-scale t (shift t ps) w, ev-shift t ps w, mul-zero w, add-zero a, zero-add (w * eval ps (t + w)), add-mul t w (eval ps (t + w))) refl
+    rw (
+      ev-add (a ∷ []) (times t (shift t ps)) w,
+      ev-add (scale t (shift t ps)) (0 ∷ shift t ps) w,
+      ev-scale t (shift t ps) w,
+      ev-shift t ps w,
+      mul-zero w,
+      add-zero a,
+      zero-add (w * eval ps (t + w)),
+      add-mul t w (eval ps (t + w)),
+    ) refl
 
 -- ---- p at t - w: the first list less the second, at w
 abbrev step : ℕ → ℕ → List ℕ × List ℕ → List ℕ × List ℕ
@@ -94,7 +140,8 @@ back t (a ∷ ps) = step t a (back t ps)
 step-0 : (t a w : ℕ) (r : List ℕ × List ℕ) → eval (step t a r .0) w ≡ a + w * 0 + (t * eval (r .0) w + (0 + w * eval (r .1) w))
 step-0 t a w r =
     ev-add (a ∷ []) (addP (scale t (r .0)) (0 ∷ r .1)) w
-    ∙ ap (λ (n : ℕ). a + w * 0 + n) (ev-add (scale t (r .0)) (0 ∷ r .1) w ∙ ap (λ (n : ℕ). n + (0 + w * eval (r .1) w)) (ev-scale t (r .0) w))
+    ∙ ap (λ (n : ℕ). a + w * 0 + n)
+    (ev-add (scale t (r .0)) (0 ∷ r .1) w ∙ ap (λ (n : ℕ). n + (0 + w * eval (r .1) w)) (ev-scale t (r .0) w))
 
 step-1 : (t a w : ℕ) (r : List ℕ × List ℕ) → eval (step t a r .1) w ≡ t * eval (r .1) w + (0 + w * eval (r .0) w)
 step-1 t a w r = ev-add (scale t (r .1)) (0 ∷ r .0) w ∙ ap (λ (n : ℕ). n + (0 + w * eval (r .0) w)) (ev-scale t (r .1) w)

@@ -1,8 +1,9 @@
--- The working sums at equal fractions: taking numerator and denominator k times as large makes them k ^ 63 times as large. Assumes nothing.
-use mathlib.Core.Path.{_≡_, refl, sym, ap, ap₂, _∙_}
+-- The working sums at equal fractions: taking numerator and denominator k times as large makes them k ^ 63 times as large. Assumes
+-- nothing.
+use mathlib.Core.Path.{_≡_, refl, sym, ap, _∙_}
 use mathlib.Core.List.{List, [], _∷_}
-use Prim.Native.Nat.{ℕ, zero, suc, _+_, _*_, _^_, _<_}
-use native.Mathlib.Nat.{pow-zero, pow-succ', mul-assoc, mul-comm, mul-zero, eq-of-mul-eq-mul-left}
+use Prim.Native.Nat.{ℕ, _*_, _^_, _<_}
+use native.Mathlib.Nat.{pow-zero, pow-succ', mul-assoc, mul-zero, eq-of-mul-eq-mul-left}
 use native.Mathlib.Omega.{arith}
 use lib.ListN.{length}
 use Rattle.series.specs.Working.{pw, ev}
@@ -29,12 +30,3 @@ pub ev-widen : (k n r : ℕ) (p : List ℕ) → length p ≡ 64 → 0 < k → ev
 ev-widen k n r p h pos =
     eq-of-mul-eq-mul-left k pos (ev (k * n) (k * r) p) (k ^ 63 * ev n r p)
     (ev-times k n r p ∙ ap (λ (w : ℕ). w * ev n r p) (pw-is k p h) ∙ mul-assoc k (k ^ 63) (ev n r p))
-
--- where a / n and x / w are the same fraction
-pub ev-cross : (n a w x : ℕ) (p : List ℕ) → length p ≡ 64 → 0 < n → 0 < w → a * w ≡ x * n → ev n a p * w ^ 63 ≡ ev w x p * n ^ 63
-ev-cross n a w x p h np wp e =
-    mul-comm (ev n a p) (w ^ 63)
-    ∙ sym (ev-widen w n a p h wp)
-    ∙ ap₂ (λ (i j : ℕ). ev i j p) (mul-comm w n) (mul-comm w a ∙ e ∙ mul-comm x n)
-    ∙ ev-widen n w x p h np
-    ∙ mul-comm (n ^ 63) (ev w x p)

@@ -1,4 +1,5 @@
--- Fractions of whole numbers, as document 01 speaks of them: (plus - minus) / over, with `over` positive. One fraction may be written in many ways: `_≋_` says that two
+-- Fractions of whole numbers, as document 01 speaks of them: (plus - minus) / over, with `over` positive. One fraction may be written in
+-- many ways: `_≋_` says that two
 -- are the same number.
 use Prim.Native.Nat.{ℕ, _+_, _*_, _≤_, _<_}
 use mathlib.Core.Path.{_≡_}

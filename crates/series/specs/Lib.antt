@@ -1,4 +1,3 @@
 pub mod Fractions
 pub mod Series
-pub mod Tables
 pub mod Working

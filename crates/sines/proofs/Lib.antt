@@ -1,4 +1,3 @@
-mod Patterns
 mod Values
 mod Centred
 mod Small

@@ -1,14 +1,15 @@
 -- Cosine and sine of the rest: what `even` and `odd` compute is within 25 and within 4 of 2 ^ 32 C and 2 ^ 32 S there. Assumes nothing.
 -- W is 2 ^ 32, x the square of the rest r, in whole numbers; the polynomials are compared once, on all rests.
-use Prim.Native.Nat.{ℕ, zero, suc, _+_, _-_, _*_, _/_, _%_, _≤_, _<_}
-use mathlib.Core.Path.{_≡_, refl, sym, ap, ap₂, _∙_, subst, subst₂}
+use Prim.Native.Nat.{ℕ, _+_, _-_, _*_, _/_, _≤_, _<_}
+use mathlib.Core.Path.{_≡_, refl, sym, ap, ap₂, _∙_, subst₂}
 use mathlib.Core.List.{List, [], _∷_}
-use native.Mathlib.Nat.{le-trans, le-of-eq, mul-assoc, mul-comm, mul-add, mul-one, mul-pos, mul-le-mul, mul-le-mul-left, mul-le-mul-right, le-of-mul-le-mul-left}
+use native.Mathlib.Nat.{le-trans, le-of-eq, mul-assoc, mul-comm, mul-add, mul-one}
+use native.Mathlib.Nat.{mul-le-mul, mul-le-mul-left, mul-le-mul-right, le-of-mul-le-mul-left}
 use native.Mathlib.Omega.{arith}
 use lib.Dec.{T, lit<, lit≤}
 use Rattle.series.proofs.Polynomials.{eval, addP, scale, below, poly-le, ev-add, ev-scale}
 use Rattle.series.proofs.Addition.{fsp, fsm, fcp, fcm, FD, sinP', sinM', cosP', cosM', sp-is, sm-is, cp-is, cm-is}
-use Rattle.sines.specs.How.{square, even, odd}
+use Rattle.sines.specs.How.{squareFactor, fourthFactor, lineFactor, cubeFactor, fifthFactor, restOne, square, even, odd}
 
 -- ---- the floors: q, i and h are what is left of x / W, q k / W and q (c - i) / W
 pub record Floors (W x q i h t c k : ℕ) : Type 0 where
@@ -40,7 +41,8 @@ module _ (W x q i h t c k : ℕ) (F : Floors W x q i h t c k) where
 
   horner-low : W * W * W * W * h + k * (x * x) ≤ W * W * (c * x) + 2 * (W * W * W * W)
   horner-low =
-      whole (W * W * W * W * h) (k * (x * x)) (W * W * (c * x)) (W * W * W * (q * t)) (W * W * W * (q * i)) (W * W * W * (q * c)) (W * W * (q * (q * k))) (W * W * W * q) (W * W * W * W)
+      whole (W * W * W * W * h) (k * (x * x)) (W * W * (c * x)) (W * W * W * (q * t)) (W * W * W * (q * i)) (W * W * W * (q * c))
+      (W * W * (q * (q * k))) (W * W * W * q) (W * W * W * W)
       (k * (W * W * q)) (k * (W * W * W)) (k * (W * W))
       (le-trans (le-of-eq (first W h)) (mul-le-mul-left (W * W * W) (F .h-low)))
       (sym (mul-add (W * W * W) (q * t) (q * i)) ∙ ap (λ (n : ℕ). W * W * W * n) product-t)
@@ -52,7 +54,8 @@ module _ (W x q i h t c k : ℕ) (F : Floors W x q i h t c k) where
       (le-trans (le-of-eq (fifth W k)) (mul-le-mul-left (W * W * W) (F .k-le)))
       (mul-le-mul-left k (le-trans (le-of-eq (sym (mul-one (W * W)))) (mul-le-mul-left (W * W) (F .w-pos))))
     where
-      whole : (wh kx wcx qt qi qc qk wq w k1 k2 k3 : ℕ) → wh ≤ qt → qt + qi ≡ qc → qc ≤ wcx → qk ≤ qi + wq → kx ≤ qk + 2 * k1 + k3 → wq ≤ w → k1 ≤ k2 → 3 * k2 ≤ w → k3 ≤ k2 → wh + kx ≤ wcx + 2 * w
+      whole : (wh kx wcx qt qi qc qk wq w k1 k2 k3 : ℕ) → wh ≤ qt → qt + qi ≡ qc → qc ≤ wcx → qk ≤ qi + wq → kx ≤ qk + 2 * k1 + k3 → wq ≤ w
+          → k1 ≤ k2 → 3 * k2 ≤ w → k3 ≤ k2 → wh + kx ≤ wcx + 2 * w
       whole wh kx wcx qt qi qc qk wq w k1 k2 k3 a b c d e f g i j = omega arith
 
       first : (W h : ℕ) → W * W * W * W * h ≡ W * W * W * (W * h)
@@ -74,23 +77,29 @@ module _ (W x q i h t c k : ℕ) (F : Floors W x q i h t c k) where
 abbrev W4 : ℕ → ℕ
 W4 W = W * W * W * W
 
-even-low-test : T (below 4294967296 (addP (scale (W4 4294967296 * 4294967296) cosP') (0 ∷ 0 ∷ (FD * (4294967296 * 4294967296 * 33554432)) ∷ []))
-    (addP (scale (W4 4294967296 * 4294967296) cosM') (FD * (W4 4294967296 * 4294967319) ∷ 0 ∷ 0 ∷ 0 ∷ (FD * 43670) ∷ [])))
+even-low-test : T (below restOne
+    (addP (scale (W4 restOne * restOne) cosP') (0 ∷ 0 ∷ (FD * (restOne * restOne * squareFactor)) ∷ []))
+    (addP (scale (W4 restOne * restOne) cosM') (FD * (W4 restOne * (restOne + 23)) ∷ 0 ∷ 0 ∷ 0 ∷ (FD * fourthFactor) ∷ [])))
 unfolding cosP' cosM' FD
 even-low-test = tt
 
-even-high-test : T (below 4294967296 (addP (scale (W4 4294967296 * 4294967296) cosM') (FD * (W4 4294967296 * 4294967296) ∷ 0 ∷ 0 ∷ 0 ∷ (FD * 43670) ∷ []))
-    (addP (scale (W4 4294967296 * 4294967296) cosP') (FD * (W4 4294967296 * 23) ∷ 0 ∷ (FD * (4294967296 * 4294967296 * 33554432)) ∷ [])))
+even-high-test : T (below restOne
+    (addP (scale (W4 restOne * restOne) cosM') (FD * (W4 restOne * restOne) ∷ 0 ∷ 0 ∷ 0 ∷ (FD * fourthFactor) ∷ []))
+    (addP (scale (W4 restOne * restOne) cosP') (FD * (W4 restOne * 23) ∷ 0 ∷ (FD * (restOne * restOne * squareFactor)) ∷ [])))
 unfolding cosP' cosM' FD
 even-high-test = tt
 
-odd-low-test : T (below 4294967296 (addP (scale (W4 4294967296 * 4294967296 * 4294967296) sinP') (0 ∷ 0 ∷ 0 ∷ (FD * (4294967296 * 4294967296 * 1398101)) ∷ []))
-    (addP (scale (W4 4294967296 * 4294967296 * 4294967296) sinM') (FD * (W4 4294967296 * 4294967296) ∷ (FD * (W4 4294967296 * 536870912)) ∷ 0 ∷ 0 ∷ 0 ∷ (FD * 1092) ∷ [])))
+odd-low-test : T (below restOne
+    (addP (scale (W4 restOne * restOne * restOne) sinP') (0 ∷ 0 ∷ 0 ∷ (FD * (restOne * restOne * cubeFactor)) ∷ []))
+    (addP (scale (W4 restOne * restOne * restOne) sinM')
+    (FD * (W4 restOne * restOne) ∷ (FD * (W4 restOne * lineFactor)) ∷ 0 ∷ 0 ∷ 0 ∷ (FD * fifthFactor) ∷ [])))
 unfolding sinP' sinM' FD
 odd-low-test = tt
 
-odd-high-test : T (below 4294967296 (addP (scale (W4 4294967296 * 4294967296 * 4294967296) sinM') (0 ∷ (FD * (W4 4294967296 * 536870912)) ∷ 0 ∷ 0 ∷ 0 ∷ (FD * 1092) ∷ []))
-    (addP (scale (W4 4294967296 * 4294967296 * 4294967296) sinP') (FD * (W4 4294967296 * 4294967296) ∷ 0 ∷ 0 ∷ (FD * (4294967296 * 4294967296 * 1398101)) ∷ [])))
+odd-high-test : T (below restOne
+    (addP (scale (W4 restOne * restOne * restOne) sinM') (0 ∷ (FD * (W4 restOne * lineFactor)) ∷ 0 ∷ 0 ∷ 0 ∷ (FD * fifthFactor) ∷ []))
+    (addP (scale (W4 restOne * restOne * restOne) sinP')
+    (FD * (W4 restOne * restOne) ∷ 0 ∷ 0 ∷ (FD * (restOne * restOne * cubeFactor)) ∷ [])))
 unfolding sinP' sinM' FD
 odd-high-test = tt
 
@@ -98,8 +107,11 @@ odd-high-test = tt
 sum-is : (k r : ℕ) (p l : List ℕ) (v : ℕ) → eval p r ≡ v → eval (addP (scale k p) l) r ≡ k * v + eval l r
 sum-is k r p l v e = ev-add (scale k p) l r ∙ ap (λ (n : ℕ). n + eval l r) (ev-scale k p r ∙ ap (λ (n : ℕ). k * n) e)
 
-tested : (k r : ℕ) (p l p' l' : List ℕ) (v v' : ℕ) → eval p r ≡ v → eval p' r ≡ v' → r ≤ 4294967296 → T (below 4294967296 (addP (scale k p) l) (addP (scale k p') l')) → k * v + eval l r ≤ k * v' + eval l' r
-tested k r p l p' l' v v' e e' h t = subst₂ (λ (m n : ℕ). m ≤ n) (sum-is k r p l v e) (sum-is k r p' l' v' e') (poly-le (addP (scale k p) l) (addP (scale k p') l') 4294967296 t r h)
+tested : (k r : ℕ) (p l p' l' : List ℕ) (v v' : ℕ) → eval p r ≡ v → eval p' r ≡ v' → r ≤ restOne
+    → T (below restOne (addP (scale k p) l) (addP (scale k p') l')) → k * v + eval l r ≤ k * v' + eval l' r
+tested k r p l p' l' v v' e e' h t =
+    subst₂ (λ (m n : ℕ). m ≤ n) (sum-is k r p l v e) (sum-is k r p' l' v' e')
+    (poly-le (addP (scale k p) l) (addP (scale k p') l') restOne t r h)
 
 -- ---- a number a in units of 1 / W is within e units of (p - m) / D
 pub record Near (e W D a p m : ℕ) : Type 0 where
@@ -115,13 +127,16 @@ module _ (W D p m r a h c k : ℕ) (pos : 0 < W4 W) (is : a + h ≡ W)
       go : (w : ℕ) → D * w * a + D * (w * h) ≡ D * (w * W)
       go w = omega (arith, ap (λ (n : ℕ). D * w * n) is)
 
-  pub even-low : W4 W * W * m + (D * (W4 W * W) + r * (0 + r * (0 + r * (0 + r * (D * k + r * 0))))) ≤ W4 W * W * p + (D * (W4 W * 23) + r * (0 + r * (D * (W * W * c) + r * 0)))
+  pub even-low : W4 W * W * m + (D * (W4 W * W) + r * (0 + r * (0 + r * (0 + r * (D * k + r * 0)))))
+      ≤ W4 W * W * p + (D * (W4 W * 23) + r * (0 + r * (D * (W * W * c) + r * 0)))
       → D * a + W * m ≤ W * p + 25 * D
   even-low t =
       le-of-mul-le-mul-left
       (last (W4 W)
-      (sum (W4 W * W * m) (W4 W * W * p) (D * (W4 W * W)) (D * W4 W * a) (D * (W4 W * h)) (D * W4 W) (D * (W * W * (c * (r * r)))) (D * (k * (r * r * (r * r)))) same-a
-      (subst₂ (λ (i j : ℕ). i ≤ j) (ap (λ (n : ℕ). W4 W * W * m + (D * (W4 W * W) + n)) (one r (D * k) D k refl)) (ap₂ (λ (i j : ℕ). W4 W * W * p + (i + j)) (two (W4 W)) (three W)) t)
+      (sum (W4 W * W * m) (W4 W * W * p) (D * (W4 W * W)) (D * W4 W * a) (D * (W4 W * h)) (D * W4 W) (D * (W * W * (c * (r * r))))
+      (D * (k * (r * r * (r * r)))) same-a
+      (subst₂ (λ (i j : ℕ). i ≤ j) (ap (λ (n : ℕ). W4 W * W * m + (D * (W4 W * W) + n)) (one r (D * k) D k refl))
+      (ap₂ (λ (i j : ℕ). W4 W * W * p + (i + j)) (two (W4 W)) (three W)) t)
       (le-trans (mul-le-mul-left D up) (le-of-eq (four (W4 W))))))
       pos
     where
@@ -143,13 +158,16 @@ module _ (W D p m r a h c k : ℕ) (pos : 0 < W4 W) (is : a + h ≡ W)
       last : (w : ℕ) → D * w * a + w * W * m ≤ w * W * p + 25 * (D * w) → w * (D * a + W * m) ≤ w * (W * p + 25 * D)
       last w l = omega arith
 
-  pub even-high : W4 W * W * p + (0 + r * (0 + r * (D * (W * W * c) + r * 0))) ≤ W4 W * W * m + (D * (W4 W * (W + 23)) + r * (0 + r * (0 + r * (0 + r * (D * k + r * 0)))))
+  pub even-high : W4 W * W * p + (0 + r * (0 + r * (D * (W * W * c) + r * 0)))
+      ≤ W4 W * W * m + (D * (W4 W * (W + 23)) + r * (0 + r * (0 + r * (0 + r * (D * k + r * 0)))))
       → W * p ≤ D * a + W * m + 25 * D
   even-high t =
       le-of-mul-le-mul-left
       (last (W4 W)
-      (sum (W4 W * W * m) (W4 W * W * p) (D * (W4 W * W)) (D * W4 W * a) (D * (W4 W * h)) (D * W4 W) (D * (W * W * (c * (r * r)))) (D * (k * (r * r * (r * r)))) same-a
-      (subst₂ (λ (i j : ℕ). i ≤ j) (ap (λ (n : ℕ). W4 W * W * p + n) (three W)) (ap₂ (λ (i j : ℕ). W4 W * W * m + (i + j)) (two (W4 W)) (one r)) t)
+      (sum (W4 W * W * m) (W4 W * W * p) (D * (W4 W * W)) (D * W4 W * a) (D * (W4 W * h)) (D * W4 W) (D * (W * W * (c * (r * r))))
+      (D * (k * (r * r * (r * r)))) same-a
+      (subst₂ (λ (i j : ℕ). i ≤ j) (ap (λ (n : ℕ). W4 W * W * p + n) (three W))
+      (ap₂ (λ (i j : ℕ). W4 W * W * m + (i + j)) (two (W4 W)) (one r)) t)
       (le-trans (le-of-eq (four (W4 W))) (le-trans (mul-le-mul-left D down) (le-of-eq (five W (W4 W)))))))
       pos
     where
@@ -174,7 +192,8 @@ module _ (W D p m r a h c k : ℕ) (pos : 0 < W4 W) (is : a + h ≡ W)
       last : (w : ℕ) → w * W * p ≤ D * w * a + w * W * m + 25 * (D * w) → w * (W * p) ≤ w * (D * a + W * m + 25 * D)
       last w l = omega arith
 
-module _ (W D p m r a u h k1 c k : ℕ) (pos : 0 < W4 W * W) (is : u + h ≡ k1) (r-le : r ≤ W) (a-low : W * a ≤ r * u) (a-high : r * u ≤ W * a + W)
+module _ (W D p m r a u h k1 c k : ℕ) (pos : 0 < W4 W * W) (is : u + h ≡ k1) (r-le : r ≤ W) (a-low : W * a ≤ r * u)
+    (a-high : r * u ≤ W * a + W)
     (up : W * W * (c * (r * r)) ≤ W4 W * h + k * (r * r * (r * r)) + 2 * W4 W)
     (down : W4 W * h + k * (r * r * (r * r)) ≤ W * W * (c * (r * r)) + 2 * W4 W) where
   -- the product with D and r, in these names
@@ -202,7 +221,8 @@ module _ (W D p m r a u h k1 c k : ℕ) (pos : 0 < W4 W * W) (is : u + h ≡ k1)
   up-r : Dc ≤ Dh + Dk + 2 * (D * (r * W4 W))
   up-r = le-trans (mul-le-mul-left D (mul-le-mul-left r up)) (le-of-eq (go (W4 W)))
     where
-      go : (w : ℕ) → D * (r * (w * h + k * (r * r * (r * r)) + 2 * w)) ≡ D * (r * (w * h)) + D * (r * (k * (r * r * (r * r)))) + 2 * (D * (r * w))
+      go : (w : ℕ) → D * (r * (w * h + k * (r * r * (r * r)) + 2 * w))
+          ≡ D * (r * (w * h)) + D * (r * (k * (r * r * (r * r)))) + 2 * (D * (r * w))
       go w = omega arith
 
   down-r : Dh + Dk ≤ Dc + 2 * (D * (r * W4 W))
@@ -223,19 +243,24 @@ module _ (W D p m r a u h k1 c k : ℕ) (pos : 0 < W4 W * W) (is : u + h ≡ k1)
       go : (w : ℕ) → D * (w * (W * a + W)) ≡ D * (w * W * a) + D * (w * W)
       go w = omega arith
 
-  pub odd-low : W4 W * W * W * m + (0 + r * (D * (W4 W * k1) + r * (0 + r * (0 + r * (0 + r * (D * k + r * 0)))))) ≤ W4 W * W * W * p + (D * (W4 W * W) + r * (0 + r * (0 + r * (D * (W * W * c) + r * 0))))
+  pub odd-low : W4 W * W * W * m + (0 + r * (D * (W4 W * k1) + r * (0 + r * (0 + r * (0 + r * (D * k + r * 0))))))
+      ≤ W4 W * W * W * p + (D * (W4 W * W) + r * (0 + r * (0 + r * (D * (W * W * c) + r * 0))))
       → D * a + W * m ≤ W * p + 4 * D
   odd-low t =
       le-of-mul-le-mul-left
       (last (W4 W * W)
-      (sum (W4 W * W * W * m) (W4 W * W * W * p) (D * (W4 W * W * a)) (D * (W4 W * W)) Du Dh Dc Dk (D * (W4 W * (r * k1))) (2 * (D * (r * W4 W))) same-u a-low' up-r r-part
-      (subst₂ (λ (i j : ℕ). i ≤ j) (ap (λ (n : ℕ). W4 W * W * W * m + n) (one (W4 W))) (ap (λ (n : ℕ). W4 W * W * W * p + (D * (W4 W * W) + n)) (two W)) t)))
+      (sum (W4 W * W * W * m) (W4 W * W * W * p) (D * (W4 W * W * a)) (D * (W4 W * W)) Du Dh Dc Dk (D * (W4 W * (r * k1)))
+      (2 * (D * (r * W4 W))) same-u a-low' up-r r-part
+      (subst₂ (λ (i j : ℕ). i ≤ j) (ap (λ (n : ℕ). W4 W * W * W * m + n) (one (W4 W)))
+      (ap (λ (n : ℕ). W4 W * W * W * p + (D * (W4 W * W) + n)) (two W)) t)))
       pos
     where
-      sum : (wm wp da d u h c k l s : ℕ) → u + h ≡ l → da ≤ u → c ≤ h + k + s → s ≤ 2 * d → wm + (l + k) ≤ wp + (d + c) → da + wm ≤ wp + 4 * d
+      sum : (wm wp da d u h c k l s : ℕ) → u + h ≡ l → da ≤ u → c ≤ h + k + s → s ≤ 2 * d → wm + (l + k) ≤ wp + (d + c)
+          → da + wm ≤ wp + 4 * d
       sum wm wp da d u h c k l s e f g i j = omega arith
 
-      one : (w : ℕ) → 0 + r * (D * (w * k1) + r * (0 + r * (0 + r * (0 + r * (D * k + r * 0))))) ≡ D * (w * (r * k1)) + D * (r * (k * (r * r * (r * r))))
+      one : (w : ℕ) → 0 + r * (D * (w * k1) + r * (0 + r * (0 + r * (0 + r * (D * k + r * 0)))))
+          ≡ D * (w * (r * k1)) + D * (r * (k * (r * r * (r * r))))
       one w = omega arith
 
       two : (W : ℕ) → r * (0 + r * (0 + r * (D * (W * W * c) + r * 0))) ≡ D * (r * (W * W * (c * (r * r))))
@@ -244,19 +269,24 @@ module _ (W D p m r a u h k1 c k : ℕ) (pos : 0 < W4 W * W) (is : u + h ≡ k1)
       last : (w : ℕ) → D * (w * a) + w * W * m ≤ w * W * p + 4 * (D * w) → w * (D * a + W * m) ≤ w * (W * p + 4 * D)
       last w l = omega arith
 
-  pub odd-high : W4 W * W * W * p + (0 + r * (0 + r * (0 + r * (D * (W * W * c) + r * 0)))) ≤ W4 W * W * W * m + (D * (W4 W * W) + r * (D * (W4 W * k1) + r * (0 + r * (0 + r * (0 + r * (D * k + r * 0))))))
+  pub odd-high : W4 W * W * W * p + (0 + r * (0 + r * (0 + r * (D * (W * W * c) + r * 0))))
+      ≤ W4 W * W * W * m + (D * (W4 W * W) + r * (D * (W4 W * k1) + r * (0 + r * (0 + r * (0 + r * (D * k + r * 0))))))
       → W * p ≤ D * a + W * m + 4 * D
   odd-high t =
       le-of-mul-le-mul-left
       (last (W4 W * W)
-      (sum (W4 W * W * W * m) (W4 W * W * W * p) (D * (W4 W * W * a)) (D * (W4 W * W)) Du Dh Dc Dk (D * (W4 W * (r * k1))) (2 * (D * (r * W4 W))) same-u a-high' down-r r-part
-      (subst₂ (λ (i j : ℕ). i ≤ j) (ap (λ (n : ℕ). W4 W * W * W * p + n) (two W)) (ap (λ (n : ℕ). W4 W * W * W * m + (D * (W4 W * W) + n)) (one (W4 W))) t)))
+      (sum (W4 W * W * W * m) (W4 W * W * W * p) (D * (W4 W * W * a)) (D * (W4 W * W)) Du Dh Dc Dk (D * (W4 W * (r * k1)))
+      (2 * (D * (r * W4 W))) same-u a-high' down-r r-part
+      (subst₂ (λ (i j : ℕ). i ≤ j) (ap (λ (n : ℕ). W4 W * W * W * p + n) (two W))
+      (ap (λ (n : ℕ). W4 W * W * W * m + (D * (W4 W * W) + n)) (one (W4 W))) t)))
       pos
     where
-      sum : (wm wp da d u h c k l s : ℕ) → u + h ≡ l → u ≤ da + d → h + k ≤ c + s → s ≤ 2 * d → wp + c ≤ wm + (d + (l + k)) → wp ≤ da + wm + 4 * d
+      sum : (wm wp da d u h c k l s : ℕ) → u + h ≡ l → u ≤ da + d → h + k ≤ c + s → s ≤ 2 * d → wp + c ≤ wm + (d + (l + k))
+          → wp ≤ da + wm + 4 * d
       sum wm wp da d u h c k l s e f g i j = omega arith
 
-      one : (w : ℕ) → r * (D * (w * k1) + r * (0 + r * (0 + r * (0 + r * (D * k + r * 0))))) ≡ D * (w * (r * k1)) + D * (r * (k * (r * r * (r * r))))
+      one : (w : ℕ) → r * (D * (w * k1) + r * (0 + r * (0 + r * (0 + r * (D * k + r * 0)))))
+          ≡ D * (w * (r * k1)) + D * (r * (k * (r * r * (r * r))))
       one w = omega arith
 
       two : (W : ℕ) → 0 + r * (0 + r * (0 + r * (D * (W * W * c) + r * 0))) ≡ D * (r * (W * W * (c * (r * r))))
@@ -266,23 +296,24 @@ module _ (W D p m r a u h k1 c k : ℕ) (pos : 0 < W4 W * W) (is : u + h ≡ k1)
       last w l = omega arith
 
 -- ---- the code's own floors
-div-low : (n : ℕ) → 4294967296 * (n / 4294967296) ≤ n
+div-low : (n : ℕ) → restOne * (n / restOne) ≤ n
 div-low n = omega arith
 
-div-high : (n : ℕ) → n ≤ 4294967296 * (n / 4294967296) + 4294967296
+div-high : (n : ℕ) → n ≤ restOne * (n / restOne) + restOne
 div-high n = omega arith
 
-div-le : (n m : ℕ) → n ≤ 4294967296 * m → n / 4294967296 ≤ m
+div-le : (n m : ℕ) → n ≤ restOne * m → n / restOne ≤ m
 div-le n m h = omega arith
 
-pub square-le : (r : ℕ) → r ≤ 4294967296 → square r ≤ 4294967296
-square-le r h = div-le (r * r) 4294967296 (mul-le-mul h h)
+pub square-le : (r : ℕ) → r ≤ restOne → square r ≤ restOne
+square-le r h = div-le (r * r) restOne (mul-le-mul h h)
 
-floors : (r c k : ℕ) → r ≤ 4294967296 → k ≤ c → c ≤ 4294967296 → 3 * k ≤ 4294967296
-    → Floors 4294967296 (r * r) (square r) (square r * k / 4294967296) (square r * (c - square r * k / 4294967296) / 4294967296) (c - square r * k / 4294967296) c k
+floors : (r c k : ℕ) → r ≤ restOne → k ≤ c → c ≤ restOne → 3 * k ≤ restOne
+    → Floors restOne (r * r) (square r) (square r * k / restOne) (square r * (c - square r * k / restOne) / restOne)
+    (c - square r * k / restOne) c k
 floors r c k hr hk hc h3 =
     let q = square r in
-    let i = q * k / 4294967296 in
+    let i = q * k / restOne in
     let few : i ≤ k = div-le (q * k) k (mul-le-mul-right k (square-le r hr)) in
     record {
       q-low = div-low (r * r);
@@ -295,73 +326,75 @@ floors r c k hr hk hc h3 =
       h-high = div-high (q * (c - i));
       c-le = hc;
       k-le = h3;
-      w-pos = lit≤ {m = 1} {n = 4294967296} tt;
+      w-pos = lit≤ {m = 1} {n = restOne} tt;
     }
   where
     back : (c i : ℕ) → i ≤ c → c - i + i ≡ c
     back c i h = omega arith
 
 -- q (c - i) / W stays below c
-pub part-le : (q c i : ℕ) → q ≤ 4294967296 → q * (c - i) / 4294967296 ≤ c
+pub part-le : (q c i : ℕ) → q ≤ restOne → q * (c - i) / restOne ≤ c
 part-le q c i h = div-le (q * (c - i)) c (mul-le-mul h (less c i))
   where
     less : (c i : ℕ) → c - i ≤ c
     less c i = omega arith
 
-pub even-near : (r : ℕ) → r ≤ 4294967296 → Near 25 4294967296 FD (even (square r)) (fcp r) (fcm r)
+pub even-near : (r : ℕ) → r ≤ restOne → Near 25 restOne FD (even (square r)) (fcp r) (fcm r)
 unfolding even
 even-near r h =
-    let F = floors r 33554432 43670 h (lit≤ tt) (lit≤ tt) (lit≤ tt) in
+    let F = floors r squareFactor fourthFactor h (lit≤ tt) (lit≤ tt) (lit≤ tt) in
     let q = square r in
-    let i = q * 43670 / 4294967296 in
-    let g = q * (33554432 - i) / 4294967296 in
-    let up = horner-up 4294967296 (r * r) q i g (33554432 - i) 33554432 43670 F in
-    let down = horner-low 4294967296 (r * r) q i g (33554432 - i) 33554432 43670 F in
-    let is = back g (part-le q 33554432 i (square-le r h)) in
+    let i = q * fourthFactor / restOne in
+    let g = q * (squareFactor - i) / restOne in
+    let up = horner-up restOne (r * r) q i g (squareFactor - i) squareFactor fourthFactor F in
+    let down = horner-low restOne (r * r) q i g (squareFactor - i) squareFactor fourthFactor F in
+    let is = back g (part-le q squareFactor i (square-le r h)) in
     record {
-      low = even-low 4294967296 FD (fcp r) (fcm r) r (4294967296 - g) g 33554432 43670 (lit< tt) is up down
-          (tested (W4 4294967296 * 4294967296) r cosM' _ cosP' _ (fcm r) (fcp r) (cm-is r) (cp-is r) h even-high-test);
-      high = even-high 4294967296 FD (fcp r) (fcm r) r (4294967296 - g) g 33554432 43670 (lit< tt) is up down
-          (tested (W4 4294967296 * 4294967296) r cosP' _ cosM' _ (fcp r) (fcm r) (cp-is r) (cm-is r) h even-low-test);
+      low = even-low restOne FD (fcp r) (fcm r) r (restOne - g) g squareFactor fourthFactor (lit< tt) is up down
+          (tested (W4 restOne * restOne) r cosM' _ cosP' _ (fcm r) (fcp r) (cm-is r) (cp-is r) h even-high-test);
+      high = even-high restOne FD (fcp r) (fcm r) r (restOne - g) g squareFactor fourthFactor (lit< tt) is up down
+          (tested (W4 restOne * restOne) r cosP' _ cosM' _ (fcp r) (fcm r) (cp-is r) (cm-is r) h even-low-test);
     }
   where
-    back : (g : ℕ) → g ≤ 33554432 → 4294967296 - g + g ≡ 4294967296
+    back : (g : ℕ) → g ≤ squareFactor → restOne - g + g ≡ restOne
     back g l = omega arith
 
-pub odd-near : (r : ℕ) → r ≤ 4294967296 → Near 4 4294967296 FD (odd r (square r)) (fsp r) (fsm r)
+pub odd-near : (r : ℕ) → r ≤ restOne → Near 4 restOne FD (odd r (square r)) (fsp r) (fsm r)
 unfolding odd
 odd-near r h =
-    let F = floors r 1398101 1092 h (lit≤ tt) (lit≤ tt) (lit≤ tt) in
+    let F = floors r cubeFactor fifthFactor h (lit≤ tt) (lit≤ tt) (lit≤ tt) in
     let q = square r in
-    let i = q * 1092 / 4294967296 in
-    let g = q * (1398101 - i) / 4294967296 in
-    let u = 536870912 - g in
-    let up = horner-up 4294967296 (r * r) q i g (1398101 - i) 1398101 1092 F in
-    let down = horner-low 4294967296 (r * r) q i g (1398101 - i) 1398101 1092 F in
-    let is = back g (part-le q 1398101 i (square-le r h)) in
+    let i = q * fifthFactor / restOne in
+    let g = q * (cubeFactor - i) / restOne in
+    let u = lineFactor - g in
+    let up = horner-up restOne (r * r) q i g (cubeFactor - i) cubeFactor fifthFactor F in
+    let down = horner-low restOne (r * r) q i g (cubeFactor - i) cubeFactor fifthFactor F in
+    let is = back g (part-le q cubeFactor i (square-le r h)) in
     record {
-      low = odd-low 4294967296 FD (fsp r) (fsm r) r (r * u / 4294967296) u g 536870912 1398101 1092 (lit< tt) is h (div-low (r * u)) (div-high (r * u)) up down
-          (tested (W4 4294967296 * 4294967296 * 4294967296) r sinM' _ sinP' _ (fsm r) (fsp r) (sm-is r) (sp-is r) h odd-high-test);
-      high = odd-high 4294967296 FD (fsp r) (fsm r) r (r * u / 4294967296) u g 536870912 1398101 1092 (lit< tt) is h (div-low (r * u)) (div-high (r * u)) up down
-          (tested (W4 4294967296 * 4294967296 * 4294967296) r sinP' _ sinM' _ (fsp r) (fsm r) (sp-is r) (sm-is r) h odd-low-test);
+      low = odd-low restOne FD (fsp r) (fsm r) r (r * u / restOne) u g lineFactor cubeFactor fifthFactor (lit< tt) is h (div-low (r * u))
+          (div-high (r * u)) up down
+          (tested (W4 restOne * restOne * restOne) r sinM' _ sinP' _ (fsm r) (fsp r) (sm-is r) (sp-is r) h odd-high-test);
+      high = odd-high restOne FD (fsp r) (fsm r) r (r * u / restOne) u g lineFactor cubeFactor fifthFactor (lit< tt) is h (div-low (r * u))
+          (div-high (r * u)) up down
+          (tested (W4 restOne * restOne * restOne) r sinP' _ sinM' _ (fsp r) (fsm r) (sp-is r) (sm-is r) h odd-low-test);
     }
   where
-    back : (g : ℕ) → g ≤ 1398101 → 536870912 - g + g ≡ 536870912
+    back : (g : ℕ) → g ≤ cubeFactor → lineFactor - g + g ≡ lineFactor
     back g l = omega arith
 
-pub even-le : (q : ℕ) → even q ≤ 4294967296
+pub even-le : (q : ℕ) → even q ≤ restOne
 unfolding even
-even-le q = less (q * (33554432 - q * 43670 / 4294967296) / 4294967296)
+even-le q = less (q * (squareFactor - q * fourthFactor / restOne) / restOne)
   where
-    less : (g : ℕ) → 4294967296 - g ≤ 4294967296
+    less : (g : ℕ) → restOne - g ≤ restOne
     less g = omega arith
 
-pub odd-le : (r q : ℕ) → r ≤ 4294967296 → odd r q ≤ 536870912
+pub odd-le : (r q : ℕ) → r ≤ restOne → odd r q ≤ lineFactor
 unfolding odd
-odd-le r q h = div-le (r * (536870912 - g)) 536870912 (mul-le-mul h (less g))
+odd-le r q h = div-le (r * (lineFactor - g)) lineFactor (mul-le-mul h (less g))
   where
     g : ℕ
-    g = q * (1398101 - q * 1092 / 4294967296) / 4294967296
+    g = q * (cubeFactor - q * fifthFactor / restOne) / restOne
 
-    less : (g : ℕ) → 536870912 - g ≤ 536870912
+    less : (g : ℕ) → lineFactor - g ≤ lineFactor
     less g = omega arith

@@ -1,5 +1,5 @@
 -- What the entries answer: document 01's refusals 1 and 2, else the number.
-use mathlib.Core.List.{List, [], _∷_}
+use mathlib.Core.List.{[], _∷_}
 use lib.Ieee.{Float}
 use Prim.Native.Nat.{ℕ}
 use Rattle.numbers.specs.Door.{finite, permits, unless, firstOf}

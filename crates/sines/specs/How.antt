@@ -1,17 +1,53 @@
 -- How ours computes sine and cosine, in whole numbers: nothing of document 01. Outside the table of permitted numbers the cores give +0.
+-- Each whole number counts a unit: the argument 2 ^ -35, an entry of the tables 2 ^ -30, what is computed of the rest 2 ^ -32, a product
+-- of these two 2 ^ -62, the result 2 ^ -24.
 use Prim.Native.Nat.{ℕ, _+_, _-_, _*_, _/_, _%_, _^_, _≤_}
 use mathlib.Core.Path.{_≡_}
-use mathlib.Core.Bool.{Bool, true, false, cond}
-use lib.Dec.{leb, ltb}
+use mathlib.Core.Bool.{Bool, false, cond}
+use lib.Dec.{ltb}
 use lib.IntN.{pos, negsuc, _-ℤ_}
 use lib.Ieee.{Float, fin, binary32, mul, neg, ofInt, toBits}
 use Rattle.numbers.specs.Door.{permits}
 use Rattle.numbers.specs.Limits.{sineArgument}
+use Rattle.units.specs.Patterns.{signSet, bare}
 use Rattle.series.specs.Working.{ev, sinP, sinM, cosP, cosM, denominator}
 
--- ---- the tables: 2 ^ 30 (1 + S (j / 8)) and 2 ^ 30 (1 + C (j / 8)), to the nearest whole number
+-- ---- the numerals
+-- 16, the largest argument, and an eighth, as counts of 2 ^ -35
+abbrev pub sixteen : ℕ
+sixteen = 16 * 2 ^ 35
+
+abbrev pub eighth : ℕ
+eighth = 2 ^ 32
+
+-- 1 as a count of the tables' unit, of the rest's and of the result's
+abbrev pub tableOne : ℕ
+tableOne = 2 ^ 30
+
+abbrev pub restOne : ℕ
+restOne = 2 ^ 32
+
+abbrev pub resultOne : ℕ
+resultOne = 2 ^ 24
+
+-- so many of the products' unit, 2 ^ -62, are one of the result's, 2 ^ -24
+abbrev pub resultUnit : ℕ
+resultUnit = 2 ^ 38
+
+-- what is added to a result so that it is not negative: 5/4, as a count of its unit
+abbrev pub surplus : ℕ
+surplus = 5 * 2 ^ 22
+
+-- the bits of 2 ^ -12, below which no table is asked, and those of 16
+abbrev pub tinyBits : ℕ
+tinyBits = 115 * 2 ^ 23
+
+abbrev pub sixteenBits : ℕ
+sixteenBits = 131 * 2 ^ 23
+
+-- ---- the tables: 1 + S (j / 8) and 1 + C (j / 8), to the nearest count
 abbrev pub nearest : ℕ → ℕ → ℕ → ℕ
-nearest plus minus over = (2 * (1073741824 * (over + plus - minus)) + over) / (2 * over)
+nearest plus minus over = (2 * (tableOne * (over + plus - minus)) + over) / (2 * over)
 
 unfoldable pub sineEntry : ℕ → ℕ
 unfolding ev sinP sinM denominator
@@ -21,72 +57,90 @@ unfoldable pub cosineEntry : ℕ → ℕ
 unfolding ev cosP cosM denominator
 cosineEntry j = nearest (ev 8 j cosP) (ev 8 j cosM) (denominator 8)
 
--- ---- the argument, in units of 2 ^ -35, from the bits without the sign of an f32 from 2 ^ -12 to 16: whole eighths and the rest
+-- ---- the argument, from the bits without the sign of an f32 from 2 ^ -12 to 16: whole eighths and the rest
 unfoldable pub fixed : ℕ → ℕ
-fixed m = (8388608 + m % 8388608) * 2 ^ (m / 8388608 - 115)
+fixed m = (2 ^ 23 + m % 2 ^ 23) * 2 ^ (m / 2 ^ 23 - 115)
 
-abbrev pub place : ℕ → ℕ
-place x = x / 4294967296
+abbrev pub eighths : ℕ → ℕ
+eighths x = x / eighth
 
 abbrev pub rest : ℕ → ℕ
-rest x = x % 4294967296
+rest x = x % eighth
 
--- ---- cosine and sine of the rest, in units of 2 ^ -32; q is its square over 2 ^ 32. With z = 8 times the rest they are 1 - z^2/128 + z^4/98304 and z/8 - z^3/3072 + z^5/3932160
+-- ---- cosine and sine of the rest: 1 - z^2/128 + z^4/98304 and z/8 - z^3/3072 + z^5/3932160, where z is 8 times the rest. So r, which
+-- counts 2 ^ -35 of the rest, counts 2 ^ -32 of z, and q those of z^2. The 20 stand for the terms that are left out.
+abbrev pub squareFactor : ℕ
+squareFactor = restOne / 128
+
+abbrev pub fourthFactor : ℕ
+fourthFactor = restOne / 98304 - 20
+
+abbrev pub lineFactor : ℕ
+lineFactor = restOne / 8
+
+abbrev pub cubeFactor : ℕ
+cubeFactor = restOne / 3072
+
+abbrev pub fifthFactor : ℕ
+fifthFactor = restOne / 3932160
+
 abbrev pub square : ℕ → ℕ
-square r = r * r / 4294967296
+square r = r * r / restOne
 
 unfoldable pub even : ℕ → ℕ
-even q = 4294967296 - q * (33554432 - q * 43670 / 4294967296) / 4294967296
+even q = restOne - q * (squareFactor - q * fourthFactor / restOne) / restOne
 
 unfoldable pub odd : ℕ → ℕ → ℕ
-odd r q = r * (536870912 - q * (1398101 - q * 1092 / 4294967296) / 4294967296) / 4294967296
+odd r q = r * (lineFactor - q * (cubeFactor - q * fifthFactor / restOne) / restOne) / restOne
 
--- the parts of x: sine and cosine of its place, cosine and sine of its rest, and how large they are
+-- the parts of x: sine and cosine of its eighths, cosine and sine of its rest, and how large they are
 pub record PartsOf (x s c a b : ℕ) : Type 0 where
-  pub s-is : s ≡ sineEntry (place x)
-  pub c-is : c ≡ cosineEntry (place x)
+  pub s-is : s ≡ sineEntry (eighths x)
+  pub c-is : c ≡ cosineEntry (eighths x)
   pub a-is : a ≡ even (square (rest x))
   pub b-is : b ≡ odd (rest x) (square (rest x))
-  pub s-high : s ≤ 2147483648
-  pub c-high : c ≤ 2147483648
-  pub a-high : a ≤ 4294967296
-  pub b-high : b ≤ 536870912
+  pub s-high : s ≤ 2 * tableOne
+  pub c-high : c ≤ 2 * tableOne
+  pub a-high : a ≤ restOne
+  pub b-high : b ≤ lineFactor
 
--- ---- by the sums of two angles, in units of 2 ^ -24, plus 5 * 2 ^ 22 so that nothing is negative
+-- ---- by the sums of two angles, as counts of the result's unit, to the nearest, and the surplus
 unfoldable pub sineSum : ℕ → ℕ → ℕ → ℕ → ℕ
-sineSum s c a b = (5764607523034234880 - 1073741824 * (a + b) + s * a + c * b + 137438953472) / 274877906944
+sineSum s c a b = (surplus * resultUnit - tableOne * (a + b) + s * a + c * b + resultUnit / 2) / resultUnit
 
 unfoldable pub cosineSum : ℕ → ℕ → ℕ → ℕ → ℕ
-cosineSum s c a b = (5764607523034234880 - 1073741824 * a + 1073741824 * b + c * a - s * b + 137438953472) / 274877906944
+cosineSum s c a b = (surplus * resultUnit - tableOne * a + tableOne * b + c * a - s * b + resultUnit / 2) / resultUnit
 
 unfoldable pub fixedSine : ℕ → ℕ
-fixedSine x = sineSum (sineEntry (place x)) (cosineEntry (place x)) (even (square (rest x))) (odd (rest x) (square (rest x)))
+fixedSine x =
+    sineSum (sineEntry (eighths x)) (cosineEntry (eighths x)) (even (square (rest x))) (odd (rest x) (square (rest x)))
 
 unfoldable pub fixedCosine : ℕ → ℕ
-fixedCosine x = cosineSum (sineEntry (place x)) (cosineEntry (place x)) (even (square (rest x))) (odd (rest x) (square (rest x)))
+fixedCosine x =
+    cosineSum (sineEntry (eighths x)) (cosineEntry (eighths x)) (even (square (rest x))) (odd (rest x) (square (rest x)))
 
--- (w - 5 * 2 ^ 22) times a unit, and / 2 ^ 24
+-- ---- to an f32: so many of the last place, less the surplus
 unfoldable pub counted : Float → ℕ → Float
-counted unit w = mul binary32 (ofInt binary32 (pos w -ℤ pos 20971520)) unit
+counted last w = mul binary32 (ofInt binary32 (pos w -ℤ pos surplus)) last
 
-abbrev pub unit : Bool → Float
-unit s = fin s 1 (negsuc 23)
+-- the last place of a result: its unit, 2 ^ -24, with the sign of the argument
+abbrev pub lastPlace : Bool → Float
+lastPlace s = fin s 1 (negsuc 23)
 
 abbrev pub centred : ℕ → Float
-centred w = counted (unit false) w
+centred w = counted (lastPlace false) w
 
 -- ---- the functions
-abbrev pub bare : Float → ℕ
-bare x = toBits binary32 x % 2147483648
-
-abbrev pub negative : Float → Bool
-negative x = leb 2147483648 (toBits binary32 x)
-
 unfoldable pub insideSine : Float → Float
-insideSine x = cond (ltb (bare x) 964689920) x (cond (negative x) (neg (centred (fixedSine (fixed (bare x))))) (centred (fixedSine (fixed (bare x)))))
+insideSine x =
+    let b = toBits binary32 x in
+    let y = centred (fixedSine (fixed (bare b))) in
+    cond (ltb (bare b) tinyBits) x (cond (signSet b) (neg y) y)
 
 unfoldable pub insideCosine : Float → Float
-insideCosine x = cond (ltb (bare x) 964689920) (fin false 1 (pos 0)) (centred (fixedCosine (fixed (bare x))))
+insideCosine x =
+    let b = toBits binary32 x in
+    cond (ltb (bare b) tinyBits) (fin false 1 (pos 0)) (centred (fixedCosine (fixed (bare b))))
 
 unfoldable pub sine : Float → Float
 sine x = cond (permits sineArgument x) (insideSine x) (fin false 0 (pos 0))

@@ -4,22 +4,26 @@ use crate::fixed;
 use numbers::door;
 use numbers::limits;
 ghost use mathlib.Core.Path.{_≡_};
-ghost use lib.Dec.{T, leb};
+ghost use lib.Dec.{T};
 ghost use Rattle.numbers.specs.Door.{permits};
 ghost use Rattle.numbers.specs.Limits.{sineArgument};
-ghost use Rattle.sines.specs.How.{sine, cosine, insideSine, insideCosine, unit};
+ghost use Rattle.units.specs.Patterns.{signSet};
+ghost use Rattle.sines.specs.How.{sine, cosine, insideSine, insideCosine, lastPlace};
 ghost use Rattle.sines.specs.Bands.{SineOf, CosineOf};
+
+// Whether x is within document 01's limits for an angle.
+pub(crate) fn permitted(x: f32) -> bool
+    ensures { λ r. ⌜ r ≡ permits sineArgument x ⌝ }
+{
+    door::is_permitted(limits::sine_argument(), x)
+}
 
 // The sine of x radians.
 pub fn sine(x: f32) -> f32
     ensures exact { λ r. ⌜ r ≡ sine x ⌝ }
     ensures band { λ r. ⌜ (T (permits sineArgument x) → SineOf x r) ⌝ }
 {
-    if door::is_permitted(limits::sine_argument(), x) {
-        inside_sine(x)
-    } else {
-        0.0
-    }
+    if permitted(x) { inside_sine(x) } else { 0.0 }
 }
 
 // The cosine of x radians.
@@ -27,11 +31,7 @@ pub fn cosine(x: f32) -> f32
     ensures exact { λ r. ⌜ r ≡ cosine x ⌝ }
     ensures band { λ r. ⌜ (T (permits sineArgument x) → CosineOf x r) ⌝ }
 {
-    if door::is_permitted(limits::sine_argument(), x) {
-        inside_cosine(x)
-    } else {
-        0.0
-    }
+    if permitted(x) { inside_cosine(x) } else { 0.0 }
 }
 
 // The sine and the cosine of one angle.
@@ -44,7 +44,7 @@ pub struct Turn {
 pub fn sine_and_cosine(x: f32) -> Turn
     ensures { λ r. ⌜ (r .sine ≡ sine x) × (r .cosine ≡ cosine x) ⌝ }
 {
-    if door::is_permitted(limits::sine_argument(), x) {
+    if permitted(x) {
         inside_both(x)
     } else {
         Turn {
@@ -54,13 +54,18 @@ pub fn sine_and_cosine(x: f32) -> Turn
     }
 }
 
-const UNIT: f32 = 0.000000059604644775390625;
+// The unit that results are counted in, 2^-24.
+const LAST_PLACE: f32 = 0.000000059604644775390625;
 
-// The unit, 2^-24, with the sign of the number whose bits are b.
-fn unit_of(b: u32) -> f32
-    ensures { λ r. ⌜ r ≡ unit (leb 2147483648 b) ⌝ }
+// The same with the sign of the number whose bits are b.
+fn last_place_of(b: u32) -> f32
+    ensures { λ r. ⌜ r ≡ lastPlace (signSet b) ⌝ }
 {
-    if 0x8000_0000 <= b { -UNIT } else { UNIT }
+    if 0x8000_0000 <= b {
+        -LAST_PLACE
+    } else {
+        LAST_PLACE
+    }
 }
 
 // Below 2^-12 (pattern 0x3980_0000) the sine is x itself, nearer than 2^-38. S is odd.
@@ -73,7 +78,7 @@ pub(crate) fn inside_sine(x: f32) -> f32
     if m < 0x3980_0000 {
         return x;
     }
-    fixed::counted(unit_of(b), fixed::both(fixed::fixed_of(m)).sine)
+    fixed::counted(last_place_of(b), fixed::both(fixed::fixed_of(m)).sine)
 }
 
 // Below 2^-12 the cosine is 1, nearer than 2^-25. C is even.
@@ -85,7 +90,7 @@ pub(crate) fn inside_cosine(x: f32) -> f32
     if m < 0x3980_0000 {
         return 1.0;
     }
-    fixed::counted(UNIT, fixed::both(fixed::fixed_of(m)).cosine)
+    fixed::counted(LAST_PLACE, fixed::both(fixed::fixed_of(m)).cosine)
 }
 
 // Both, each as above.
@@ -103,7 +108,7 @@ fn inside_both(x: f32) -> Turn
     }
     let both = fixed::both(fixed::fixed_of(m));
     Turn {
-        sine: fixed::counted(unit_of(b), both.sine),
-        cosine: fixed::counted(UNIT, both.cosine),
+        sine: fixed::counted(last_place_of(b), both.sine),
+        cosine: fixed::counted(LAST_PLACE, both.cosine),
     }
 }

@@ -1,7 +1,6 @@
 // Sine and cosine of an f32, by whole numbers of at most 64 bits and one table of about 1 KB.
 use numbers::Answer;
 use numbers::door;
-use numbers::limits;
 ghost use mathlib.Core.Path.{_≡_};
 ghost use lib.Ieee.{Float};
 ghost use Rattle.numbers.specs.Answers.{told};
@@ -18,7 +17,7 @@ pub fn sine(x: f32) -> Answer
     ensures exact { λ r. ⌜ told r ≡ sineTold x ⌝ }
     ensures band { λ r. ⌜ ((y : Float) → r ≡ Value y → SineOf x y) ⌝ }
 {
-    if door::is_permitted(limits::sine_argument(), x) {
+    if core::permitted(x) {
         Answer::Value(core::inside_sine(x))
     } else {
         Answer::Refused(door::outside(door::is_finite(x)))
@@ -30,7 +29,7 @@ pub fn cosine(x: f32) -> Answer
     ensures exact { λ r. ⌜ told r ≡ cosineTold x ⌝ }
     ensures band { λ r. ⌜ ((y : Float) → r ≡ Value y → CosineOf x y) ⌝ }
 {
-    if door::is_permitted(limits::sine_argument(), x) {
+    if core::permitted(x) {
         Answer::Value(core::inside_cosine(x))
     } else {
         Answer::Refused(door::outside(door::is_finite(x)))

@@ -1,10 +1,11 @@
--- A step by distance hands the root and the sine nothing outside their tables: the root by `moves`, and the progress is never more than 1.
+-- A step by distance hands the root and the sine nothing outside their tables: the root by `moves`, and the progress is
+-- never more than 1.
 use Rattle.commands.specs.Constants.{nought}
 use mathlib.Core.Path.{_≡_, refl, sym, _∙_, subst}
 use mathlib.Core.Bool.{Bool, true, false, not, _&&_, true≢false}
 use mathlib.Core.List.{[], _∷_}
 use Prim.Native.Nat.{ℕ, zero, suc, _+_, _*_, _≤_, _<_, zero-le}
-use native.Mathlib.Nat.{le-trans, le-of-eq, zero-lt-suc}
+use native.Mathlib.Nat.{le-trans, le-of-eq, zero-lt-suc, mul-comm}
 use native.Mathlib.Omega.{arith}
 use lib.Dec.{T, lit≤, lit<}
 use lib.Ieee.{Float, nan, inf, fin, binary32, add, mul, div, lt, eq, fits}
@@ -12,7 +13,7 @@ use lib.Ieee.Fits.{div-fits, and-l, and-r}
 use lib.Ieee.Exact.{HasValue}
 use Rattle.numbers.specs.Told.{choose}
 use Rattle.numbers.specs.Finite.{lesser, greater}
-use Rattle.numbers.specs.Door.{finite, permits, unless, firstOf}
+use Rattle.numbers.specs.Door.{permits, unless, firstOf}
 use Rattle.numbers.specs.Limits.{over}
 use Rattle.numbers.specs.Limits as rows
 use Rattle.units.specs.Units.{unity, Part, hi, lo}
@@ -28,13 +29,15 @@ use Rattle.legs.specs.Legs.{Leg, leftFront, rightFront, leftMiddle, rightMiddle
 use Rattle.legs.specs.declared.Feet.{Feet}
 use Rattle.bounds.specs.Between.{Between, HeldFeet}
 use Rattle.bounds.proofs.Between.{made, result-between, sum-between, product-between}
-use Rattle.bounds.proofs.Rows.{at-max-move, sine-row, each}
+use Rattle.bounds.proofs.Rows.{at-max-move, sine-row}
+use Rattle.legs.proofs.Laws.{each-of-every}
+use Rattle.numbers.proofs.OnePass.{none-refused}
 use Rattle.moves.specs.Distance.{horizontalSum, horizontalDistance, maxHorizontalDistance}
 use Rattle.moves.proofs.Largest.{Rootable, upward, horizontal-sum-rootable}
 use Rattle.moves.proofs.Squares.{horizontal-sum-permitted}
 use Rattle.steps.specs.Leg.{halfTurn}
 use Rattle.steps.specs.Progress.{stepProgress}
-use Rattle.steps.specs.Refusals.{finiteCourse, permittedCourse, stepRefusal}
+use Rattle.steps.specs.Refusals.{permittedCourse, finiteStep, permittedStep, stepRefusal}
 use Rattle.steps.specs.Next.{stepEnded}
 use Rattle.steps.specs.declared.StepIterator.{StepIterator}
 use Rattle.steps.proofs.Times.{Above}
@@ -74,19 +77,23 @@ greater-distance {x} {y} a b = by-test (lt x y)
     by-test false = a
 
 -- what the root is handed, leg by leg
-module _ (a b : Feet) (A : HeldFeet a) (B : HeldFeet b) (h : T (permittedFeet rows.foot a)) (k : T (permittedFeet rows.foot b)) where
+module _ (a b : Feet) (A : HeldFeet a) (B : HeldFeet b) (h : T (permittedFeet rows.footLimit a))
+    (k : T (permittedFeet rows.footLimit b)) where
   pub root-within : (l : Leg) → T (permits rows.rootArgument (horizontalSum (foot a l) (foot b l)))
   root-within l =
       horizontal-sum-permitted (foot a l) (foot b l)
       (A l .x, A l .y, A l .z) (B l .x, B l .y, B l .z)
-      (each (λ g. permittedPoint rows.foot (foot a g)) h l) (each (λ g. permittedPoint rows.foot (foot b g)) k l)
+      (each-of-every (λ g. permittedPoint rows.footLimit (foot a g)) h l)
+      (each-of-every (λ g. permittedPoint rows.footLimit (foot b g)) k l)
 
   longest-distance : Distance (maxHorizontalDistance a b)
   unfolding maxHorizontalDistance horizontalDistance
   longest-distance =
       let d : (l : Leg) → Distance (squareRoot (horizontalSum (foot a l) (foot b l))) =
       λ l. root-distance (horizontalSum (foot a l) (foot b l)) (horizontal-sum-rootable (foot a l) (foot b l)) (root-within l) in
-      greater-distance (greater-distance (greater-distance (greater-distance (greater-distance (d leftFront) (d rightFront)) (d leftMiddle)) (d rightMiddle)) (d leftRear)) (d rightRear)
+      let front = greater-distance (d leftFront) (d rightFront) in
+      let middle = greater-distance (greater-distance front (d leftMiddle)) (d rightMiddle) in
+      greater-distance (greater-distance middle (d leftRear)) (d rightRear)
 
 -- ---- the progress is at most 1
 distance-between : {x : Float} → Distance x → Between 0 256 x
@@ -100,7 +107,9 @@ above : {x : Float} → Distance x → eq x nought ≡ false → Above x
 above {x} d h = by-size (d .q) (d .value)
   where
     by-size : (q : ℕ) → HasValue x false q unity → Above x
-    by-size zero v = absurd (true≢false (sym (holds (eq x nought) (eq-part binary32 x nought 0 0 0 0 (plus-part binary32 x 0 v) nought-part .1 refl)) ∙ h))
+    by-size zero v =
+        let same = eq-part binary32 x nought 0 0 0 0 (plus-part binary32 x 0 v) nought-part .1 refl in
+        absurd (true≢false (sym (holds (eq x nought) same) ∙ h))
       where
         holds : (b : Bool) → T b → b ≡ true
         holds true t = refl
@@ -136,7 +145,10 @@ module _ (s full : Float) (k : ℕ) (b : Between 0 k s) (a : Above full) where
             part = b .ok;
             most =
                 small (hi s) (lo s) (a .q) (none (lo s) unity (b .low))
-                (not-lt-part binary32 full s (a .q) 0 (hi s) (lo s) (plus-part binary32 full (a .q) (a .value)) (b .ok) (subst (λ (t : Bool). T (not t)) (sym h) tt));
+                (not-lt-part binary32 full s (a .q) 0 (hi s) (lo s)
+                (plus-part binary32 full (a .q) (a .value))
+                (b .ok)
+                (subst (λ (t : Bool). T (not t)) (sym h) tt));
           }
 
   progress-between : Between 1 1 (div binary32 (lesser s full) full)
@@ -144,25 +156,16 @@ module _ (s full : Float) (k : ℕ) (b : Between 0 k s) (a : Above full) where
       let x = lesser s full in
       let m = lesser-most in
       result-between 1 unity (div binary32 x full) (div-fits binary32 x full) (lit≤ tt)
-      (div-most binary32 x full false (m .p) (m .n) (a .q) (a .q) unity (m .part) (a .value) (a .more) (m .most) (grid-exact binary32 1 149 (lit< tt) (lit< tt)) (lit< tt) (le-of-eq (turned (a .q) unity)))
-    where
-      turned : (q u : ℕ) → q * u ≡ u * q
-      turned q u = omega arith
+      (div-most binary32 x full false (m .p) (m .n) (a .q) (a .q) unity (m .part) (a .value) (a .more) (m .most)
+      (grid-exact binary32 1 149 (lit< tt) (lit< tt))
+      (lit< tt)
+      (le-of-eq (mul-comm (a .q) unity)))
 
--- no refusal says that all is permitted
-none-refused : (F P : Bool) → firstOf (unless F 1 ∷ unless P 2 ∷ []) ≡ 0 → T P
-none-refused true true e = tt
-none-refused true false e = absurd (omega arith)
-none-refused false P e = absurd (omega arith)
-
-module _ (s : StepIterator) (A : HeldFeet (s .start)) (B : HeldFeet (s .last)) (C : HeldFeet (s .target)) (M : T (fits binary32 (s .«max_move»))) (e : stepRefusal s ≡ 0) where
-  taken : T (permittedCourse (s .start) (s .last) (s .target) && permits rows.maxMove (s .«max_move») && permits rows.direction (s .«step_height»))
+module _ (s : StepIterator) (A : HeldFeet (s .start)) (B : HeldFeet (s .last)) (C : HeldFeet (s .target))
+    (M : T (fits binary32 (s .«max_move»))) (e : stepRefusal s ≡ 0) where
+  taken : T (permittedStep s)
   unfolding stepRefusal
-  taken =
-      none-refused
-      (finiteCourse (s .start) (s .last) (s .target) && finite (s .«max_move») && finite (s .«step_height»))
-      (permittedCourse (s .start) (s .last) (s .target) && permits rows.maxMove (s .«max_move») && permits rows.direction (s .«step_height»))
-      e
+  taken = none-refused (finiteStep s) (permittedStep s) e
 
   abbrev full : Float
   full = maxHorizontalDistance (s .start) (s .target)
@@ -178,14 +181,16 @@ module _ (s : StepIterator) (A : HeldFeet (s .start)) (B : HeldFeet (s .last)) (
       let move = permits rows.maxMove (s .«max_move») in
       let c = and-l all move (and-l (all && move) (permits rows.direction (s .«step_height»)) taken) in
       let m = at-max-move (s .«max_move») M (and-r all move (and-l (all && move) (permits rows.direction (s .«step_height»)) taken)) in
-      let i = permittedFeet rows.foot (s .start) in
-      let j = permittedFeet rows.foot (s .last) in
-      let k = permittedFeet rows.foot (s .target) in
+      let i = permittedFeet rows.footLimit (s .start) in
+      let j = permittedFeet rows.footLimit (s .last) in
+      let k = permittedFeet rows.footLimit (s .target) in
       let ij = and-l (i && j) k c in
       let start = and-l i j ij in
       let f = longest-distance (s .start) (s .target) A C start (and-r (i && j) k c) in
       let g = longest-distance (s .last) (s .start) B A (and-r i j ij) start in
-      progress-between (add binary32 gone (s .«max_move»)) full 257 (sum-between (distance-between g) m (lit< tt) (lit< tt)) (above f h)
+      progress-between (add binary32 gone (s .«max_move»)) full 257
+      (sum-between (distance-between g) m (lit< tt) (lit< tt))
+      (above f h)
 
   pub step-within : stepEnded full ≡ false → T (permits rows.sineArgument (mul binary32 (stepProgress gone (s .«max_move») full) halfTurn))
   step-within h = sine-row (product-between (step-progress-between h) half-turn-between (lit< tt)) (lit≤ tt) (lit≤ tt)

@@ -9,7 +9,7 @@ use Rattle.sines.specs.How.{sine}
 use Rattle.moves.specs.Distance.{same}
 use Rattle.moves.specs.declared.MoveStep.{MoveStep}
 use Rattle.moves.specs.declared.MoveStep.the-variants.{Moved, Arrived}
-use Rattle.steps.specs.Leg.{half, halfTurn, along, stepLiftedLeg}
+use Rattle.steps.specs.Leg.{half, halfTurn, partWay, stepLiftedLeg}
 use Rattle.steps.specs.How.{atOnce, swing, raised, legAt}
 
 module _ (start last target : Point) (height progress sine' : Float) where
@@ -21,18 +21,23 @@ module _ (start last target : Point) (height progress sine' : Float) where
       (Moved target)
       (Moved
       (record {
-        x = along progress (start .x) (target .x);
-        y = along progress (start .y) (target .y);
+        x = partWay progress (start .x) (target .x);
+        y = partWay progress (start .y) (target .y);
         z = add binary32 up (start .z);
       })))
 
-  unasked : (now done : Bool) → at-height done (choose now height (mul binary32 (choose (now || done) nought sine') height)) ≡ at-height done (choose now height (mul binary32 sine' height))
+  unasked : (now done : Bool)
+      → at-height done (choose now height (mul binary32 (choose (now || done) nought sine') height))
+      ≡ at-height done (choose now height (mul binary32 sine' height))
   unfolding at-height
   unasked true true = refl
   unasked true false = refl
   unasked false true = refl
   unasked false false = refl
 
-pub leg-is : (start last target : Point) (height progress : Float) (aggressive : Bool) → legAt start last target progress (raised (atOnce aggressive progress) (swing (atOnce aggressive progress) progress) height) ≡ stepLiftedLeg start last target height progress aggressive
+pub leg-is : (start last target : Point) (height progress : Float) (aggressive : Bool)
+    → legAt start last target progress
+    (raised (atOnce aggressive progress) (swing (atOnce aggressive progress) progress) height)
+    ≡ stepLiftedLeg start last target height progress aggressive
 unfolding at-height legAt raised atOnce swing stepLiftedLeg
 leg-is s l t h p a = unasked s l t h p (sine (mul binary32 p halfTurn)) (a && lt p half) (le one p)

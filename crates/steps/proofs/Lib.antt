@@ -1,9 +1,10 @@
 mod Bits
 mod Legs
+mod OnePass
+mod Uncapped
 pub mod Times
 pub mod Within
 pub mod Distances
 pub mod FootByFoot
 pub mod Taken
-pub mod Cases
 pub mod OneAnswer

@@ -1,24 +1,19 @@
--- What is told of an answer on steps loses nothing of it, so no second answer fits a contract stated by it.
-use mathlib.Core.Path.{_≡_, refl, sym, ap, ap₂, _∙_}
+-- What is told of an answer on steps can be read back, so telling loses nothing and no second answer fits a contract stated by it.
+use mathlib.Core.Path.{_≡_, refl, ap, ap₂}
 use mathlib.Core.Bool.{Bool}
-use mathlib.Core.List.{List, [], _∷_, _++_}
-use Prim.Native.Nat.{ℕ}
-use native.Mathlib.Omega.{arith}
+use mathlib.Core.List.{List, [], _∷_}
+use Prim.Native.Nat.{ℕ, zero, suc, _+_}
 use lib.Dec.{eqb}
-use lib.ListN.{getD, take, drop}
+use lib.ListN.{getD, drop}
 use lib.Ieee.{Float, nan}
-use Rattle.numbers.specs.Told.{Told, choose}
-use Rattle.legs.specs.Legs.{row, foot, fromRow}
-use Rattle.legs.proofs.OneAnswer.{points-from-values, feet-from-values}
+use Rattle.numbers.specs.Told.{Told}
 use Rattle.legs.specs.declared.Point.{Point}
 use Rattle.legs.specs.declared.Feet.{Feet}
-use Rattle.commands.specs.Answers.{mark}
-use Rattle.commands.specs.Tripods.{isRLR}
-use Rattle.commands.proofs.OneAnswer.{flag-of-mark}
+use Rattle.commands.proofs.OneAnswer.{undone, flag-of-mark, tripod-of-mark, tripod-back}
 use Rattle.commands.specs.declared.Time.{Time}
 use Rattle.commands.specs.declared.Tripod.{Tripod}
-use Rattle.commands.specs.declared.Tripod.the-variants.{LRL, RLR}
-use Rattle.steps.specs.Answers.{course, stepMarks, stepValues, liftMarks, timedMarks, timedValues, evenMarks, evenValues, toldStepIter, toldTimedIter, toldEvenIter, toldNextStep, toldNextTimed, toldNextEven}
+use Rattle.steps.specs.Answers.{stepMarks, stepValues, liftMarks, liftValues}
+use Rattle.steps.specs.Answers.{toldStepIter, toldTimedIter, toldEvenIter, toldNextStep, toldNextTimed, toldNextEven}
 use Rattle.steps.specs.declared.Lift.{Lift}
 use Rattle.steps.specs.declared.StepIterator.{StepIterator}
 use Rattle.steps.specs.declared.TimedStepIterator.{TimedStepIterator}
@@ -36,153 +31,152 @@ use Rattle.steps.specs.declared.NextTimed.the-variants.{Step as TimedSte
 use Rattle.steps.specs.declared.NextEven.{NextEven}
 use Rattle.steps.specs.declared.NextEven.the-variants.{Step as EvenStep, NoStep as NoEvenStep, Refused as EvenStepRefused}
 
--- the parts of what is told
-number : {t u : Told} → t ≡ u → t .number ≡ u .number
-number e = ap (λ (t : Told). t .number) e
+-- ---- a foot, six feet, a lift and a period, from the floats and the marks of a state
+point-at : List Float → ℕ → Point
+point-at xs k = record { x = getD xs k nan; y = getD xs (k + 1) nan; z = getD xs (k + 2) nan }
 
-marks : {t u : Told} → t ≡ u → t .marks ≡ u .marks
-marks e = ap (λ (t : Told). t .marks) e
-
-floats : {t u : Told} → t ≡ u → t .values ≡ u .values
-floats e = ap (λ (t : Told). t .values) e
-
--- no list is empty and not
-full : {A : Type 0} (x : A) (xs : List A) → x ∷ xs ≡ [] → ⊥
-full x xs e = let z : _≡_ {A = ℕ} 0 1 = cc in omega arith
-
--- ---- a tripod, a lift and three sets of feet, from what is told of them
-tripod-of : ℕ → Tripod
-tripod-of n = choose (eqb n 1) RLR LRL
-
-tripod-back : (t : Tripod) → tripod-of (mark (isRLR t)) ≡ t
-unfolding tripod-of
-tripod-back LRL = refl
-tripod-back RLR = refl
-
-lift-of : List ℕ → List Float → Lift
-lift-of ks xs =
+feet-at : List Float → ℕ → Feet
+feet-at xs k =
     record {
-      «step_height» = getD xs 0 nan;
-      «grounded_leg_descent» = getD xs 1 nan;
-      tripod = tripod-of (getD ks 0 0);
-      «aggressive_leg_lift» = eqb (getD ks 1 0) 1;
+      «left_front» = point-at xs k;
+      «right_front» = point-at xs (k + 3);
+      «left_middle» = point-at xs (k + 6);
+      «right_middle» = point-at xs (k + 9);
+      «left_rear» = point-at xs (k + 12);
+      «right_rear» = point-at xs (k + 15);
     }
 
-lift-back : (l : Lift) (p : Time) (xs : List Float) → lift-of (liftMarks l p) (l .«step_height» ∷ l .«grounded_leg_descent» ∷ xs) ≡ l
-unfolding lift-of
-lift-back l p xs =
-    ap₂ (λ (t : Tripod) (b : Bool). record { «step_height» = l .«step_height»; «grounded_leg_descent» = l .«grounded_leg_descent»; tripod = t; «aggressive_leg_lift» = b })
-    (tripod-back (l .tripod)) (flag-of-mark (l .«aggressive_leg_lift»))
+lift : Float → Float → Tripod → Bool → Lift
+lift height descent t b =
+    record { «step_height» = height; «grounded_leg_descent» = descent; tripod = t; «aggressive_leg_lift» = b }
 
-period-of : List ℕ → Time
-period-of ks = record { seconds = getD ks 2 0; nanoseconds = getD ks 3 0 }
-
-same-course : (a b c a' b' c' : Feet) → course a b c ≡ course a' b' c' → row (foot a) ++ row (foot b) ++ row (foot c) ≡ row (foot a') ++ row (foot b') ++ row (foot c')
-same-course a b c a' b' c' e = points-from-values (row (foot a) ++ row (foot b) ++ row (foot c)) (row (foot a') ++ row (foot b') ++ row (foot c')) e
-
--- ---- the states
-step-of : List ℕ → List Float → List Point → StepIterator
-step-of ks xs ps =
+-- ---- a state by distance
+step-of : List ℕ → List Float → StepIterator
+step-of ks xs =
     record {
-      start = fromRow ps;
-      last = fromRow (drop 6 ps);
-      target = fromRow (drop 12 ps);
+      start = feet-at xs 2;
+      last = feet-at xs 20;
+      target = feet-at xs 38;
       «max_move» = getD xs 0 nan;
       «step_height» = getD xs 1 nan;
-      tripod = tripod-of (getD ks 0 0);
+      tripod = tripod-of-mark (getD ks 0 0);
       «aggressive_leg_lift» = eqb (getD ks 1 0) 1;
     }
 
-step-back : (s : StepIterator) → step-of (stepMarks s) (stepValues s) (row (foot (s .start)) ++ row (foot (s .last)) ++ row (foot (s .target))) ≡ s
-unfolding step-of
+step-back : (s : StepIterator) → step-of (stepMarks s) (stepValues s) ≡ s
+unfolding step-of feet-at point-at
 step-back s =
-    ap₂ (λ (t : Tripod) (b : Bool). record { start = s .start; last = s .last; target = s .target; «max_move» = s .«max_move»; «step_height» = s .«step_height»; tripod = t; «aggressive_leg_lift» = b })
+    ap₂
+    (λ (t : Tripod) (b : Bool).
+    record {
+      start = s .start;
+      last = s .last;
+      target = s .target;
+      «max_move» = s .«max_move»;
+      «step_height» = s .«step_height»;
+      tripod = t;
+      «aggressive_leg_lift» = b;
+    })
     (tripod-back (s .tripod)) (flag-of-mark (s .«aggressive_leg_lift»))
 
-pub step-from-told : (s r : StepIterator) → stepMarks s ≡ stepMarks r → stepValues s ≡ stepValues r → s ≡ r
-step-from-told s r m v =
-    let c = same-course (s .start) (s .last) (s .target) (r .start) (r .last) (r .target) (ap (drop 2) v) in
-    sym (step-back s)
-    ∙ ap₂ (λ (ks : List ℕ) (xs : List Float). step-of ks xs (row (foot (s .start)) ++ row (foot (s .last)) ++ row (foot (s .target)))) m v
-    ∙ ap (step-of (stepMarks r) (stepValues r)) c
-    ∙ step-back r
+-- ---- a state by time, at either pace: `make` puts start, last, target, period and lift together
+module _ {S : Type 0} (make : Feet → Feet → Feet → Time → Lift → S) where
+  timed-of : List ℕ → List Float → S
+  timed-of ks xs =
+      make (feet-at xs 2) (feet-at xs 20) (feet-at xs 38)
+      (record { seconds = getD ks 2 0; nanoseconds = getD ks 3 0 })
+      (lift (getD xs 0 nan) (getD xs 1 nan) (tripod-of-mark (getD ks 0 0)) (eqb (getD ks 1 0) 1))
 
-timed-of : List ℕ → Lift → List Point → TimedStepIterator
-timed-of ks l ps = record { start = fromRow ps; last = fromRow (drop 6 ps); target = fromRow (drop 12 ps); period = period-of ks; lift = l }
+  timed-back : (a b c : Feet) (p : Time) (l : Lift) → timed-of (liftMarks l p) (liftValues l a b c) ≡ make a b c p l
+  unfolding timed-of feet-at point-at lift
+  timed-back a b c p l =
+      ap₂ (λ (t : Tripod) (f : Bool). make a b c p (lift (l .«step_height») (l .«grounded_leg_descent») t f))
+      (tripod-back (l .tripod)) (flag-of-mark (l .«aggressive_leg_lift»))
 
-even-of : List ℕ → Lift → List Point → EvenStepIterator
-even-of ks l ps = record { start = fromRow ps; last = fromRow (drop 6 ps); target = fromRow (drop 12 ps); period = period-of ks; lift = l }
+timed : Feet → Feet → Feet → Time → Lift → TimedStepIterator
+timed a b c p l = record { start = a; last = b; target = c; period = p; lift = l }
 
-same-lift : (l l' : Lift) (p p' : Time) (xs xs' : List Float) → liftMarks l p ≡ liftMarks l' p' → l .«step_height» ∷ l .«grounded_leg_descent» ∷ xs ≡ l' .«step_height» ∷ l' .«grounded_leg_descent» ∷ xs' → l ≡ l'
-same-lift l l' p p' xs xs' m v = sym (lift-back l p xs) ∙ ap₂ lift-of m v ∙ lift-back l' p' xs'
+even : Feet → Feet → Feet → Time → Lift → EvenStepIterator
+even a b c p l = record { start = a; last = b; target = c; period = p; lift = l }
 
-pub timed-from-told : (s r : TimedStepIterator) → timedMarks s ≡ timedMarks r → timedValues s ≡ timedValues r → s ≡ r
-unfolding timed-of period-of
-timed-from-told s r m v =
-    let c = same-course (s .start) (s .last) (s .target) (r .start) (r .last) (r .target) (ap (drop 2) v) in
-    let l : s .lift ≡ r .lift = same-lift (s .lift) (r .lift) (s .period) (r .period) _ _ m v in
-    ap₂ (λ (ks : List ℕ) (k : Lift). timed-of ks k (row (foot (s .start)) ++ row (foot (s .last)) ++ row (foot (s .target)))) m l
-    ∙ ap (timed-of (timedMarks r) (r .lift)) c
+-- ---- the two shapes of an answer: a state or a refusal; a step with its state, none, or a refusal. A refusal has no marks
+module _ {S A : Type 0} (state : S → A) (refuse : ℕ → A) (of : List ℕ → List Float → S) where
+  set-out : List ℕ → Told → A
+  set-out [] t = refuse (t .number)
+  set-out (k ∷ ks) t = state (of (k ∷ ks) (t .values))
 
-pub even-from-told : (s r : EvenStepIterator) → evenMarks s ≡ evenMarks r → evenValues s ≡ evenValues r → s ≡ r
-unfolding even-of period-of
-even-from-told s r m v =
-    let c = same-course (s .start) (s .last) (s .target) (r .start) (r .last) (r .target) (ap (drop 2) v) in
-    let l : s .lift ≡ r .lift = same-lift (s .lift) (r .lift) (s .period) (r .period) _ _ m v in
-    ap₂ (λ (ks : List ℕ) (k : Lift). even-of ks k (row (foot (s .start)) ++ row (foot (s .last)) ++ row (foot (s .target)))) m l
-    ∙ ap (even-of (evenMarks r) (r .lift)) c
+module _ {S A : Type 0} (step : Feet → S → A) (none : A) (refuse : ℕ → A) (of : List ℕ → List Float → S) where
+  next : List ℕ → Told → A
+  next [] t = refuse (t .number)
+  next (zero ∷ ks) t = none
+  next (suc k ∷ ks) t = step (feet-at (t .values) 0) (of ks (drop 18 (t .values)))
 
--- ---- the answers
+-- ---- by distance
+step-iter-back : (a : StepIter) → set-out State Refused step-of (toldStepIter a .marks) (toldStepIter a) ≡ a
+unfolding set-out
+step-iter-back (State s) = ap State (step-back s)
+step-iter-back (Refused n) = refl
+
+next-step-back : (a : NextStep) → next Step NoStep StepRefused step-of (toldNextStep a .marks) (toldNextStep a) ≡ a
+unfolding next feet-at point-at
+next-step-back (Step f s) = ap (Step f) (step-back s)
+next-step-back NoStep = refl
+next-step-back (StepRefused n) = refl
+
 pub toldStepIter-loses-nothing : (a b : StepIter) → toldStepIter a ≡ toldStepIter b → a ≡ b
-toldStepIter-loses-nothing (State s) (State r) e = ap State (step-from-told s r (marks e) (floats e))
-toldStepIter-loses-nothing (State s) (Refused n) e = absurd (full _ _ (marks e))
-toldStepIter-loses-nothing (Refused n) (State r) e = absurd (full _ _ (sym (marks e)))
-toldStepIter-loses-nothing (Refused n) (Refused k) e = ap Refused (number e)
-
-pub toldTimedIter-loses-nothing : (a b : TimedIter) → toldTimedIter a ≡ toldTimedIter b → a ≡ b
-toldTimedIter-loses-nothing (TimedState s) (TimedState r) e = ap TimedState (timed-from-told s r (marks e) (floats e))
-toldTimedIter-loses-nothing (TimedState s) (TimedRefused n) e = absurd (full _ _ (marks e))
-toldTimedIter-loses-nothing (TimedRefused n) (TimedState r) e = absurd (full _ _ (sym (marks e)))
-toldTimedIter-loses-nothing (TimedRefused n) (TimedRefused k) e = ap TimedRefused (number e)
-
-pub toldEvenIter-loses-nothing : (a b : EvenIter) → toldEvenIter a ≡ toldEvenIter b → a ≡ b
-toldEvenIter-loses-nothing (EvenState s) (EvenState r) e = ap EvenState (even-from-told s r (marks e) (floats e))
-toldEvenIter-loses-nothing (EvenState s) (EvenRefused n) e = absurd (full _ _ (marks e))
-toldEvenIter-loses-nothing (EvenRefused n) (EvenState r) e = absurd (full _ _ (sym (marks e)))
-toldEvenIter-loses-nothing (EvenRefused n) (EvenRefused k) e = ap EvenRefused (number e)
+toldStepIter-loses-nothing = undone toldStepIter (λ t. set-out State Refused step-of (t .marks) t) step-iter-back
 
 pub toldNextStep-loses-nothing : (a b : NextStep) → toldNextStep a ≡ toldNextStep b → a ≡ b
-toldNextStep-loses-nothing (Step f s) (Step g r) e =
-    ap₂ Step (feet-from-values f g (ap (take 18) (floats e))) (step-from-told s r (ap (drop 1) (marks e)) (ap (drop 18) (floats e)))
-toldNextStep-loses-nothing (Step f s) NoStep e = absurd (full _ _ (floats e))
-toldNextStep-loses-nothing (Step f s) (StepRefused n) e = absurd (full _ _ (marks e))
-toldNextStep-loses-nothing NoStep (Step g r) e = absurd (full _ _ (sym (floats e)))
-toldNextStep-loses-nothing NoStep NoStep e = refl
-toldNextStep-loses-nothing NoStep (StepRefused n) e = absurd (full 0 [] (marks e))
-toldNextStep-loses-nothing (StepRefused n) (Step g r) e = absurd (full _ _ (sym (marks e)))
-toldNextStep-loses-nothing (StepRefused n) NoStep e = absurd (full 0 [] (sym (marks e)))
-toldNextStep-loses-nothing (StepRefused n) (StepRefused k) e = ap StepRefused (number e)
+toldNextStep-loses-nothing = undone toldNextStep (λ t. next Step NoStep StepRefused step-of (t .marks) t) next-step-back
+
+-- ---- by time
+timed-state-back : (s : TimedStepIterator)
+    → timed-of timed (liftMarks (s .lift) (s .period)) (liftValues (s .lift) (s .start) (s .last) (s .target)) ≡ s
+unfolding timed
+timed-state-back s = timed-back timed (s .start) (s .last) (s .target) (s .period) (s .lift)
+
+timed-iter-back : (a : TimedIter) → set-out TimedState TimedRefused (timed-of timed) (toldTimedIter a .marks) (toldTimedIter a) ≡ a
+unfolding set-out
+timed-iter-back (TimedState s) = ap TimedState (timed-state-back s)
+timed-iter-back (TimedRefused n) = refl
+
+next-timed-back : (a : NextTimed)
+    → next TimedStep NoTimedStep TimedStepRefused (timed-of timed) (toldNextTimed a .marks) (toldNextTimed a) ≡ a
+unfolding next feet-at point-at
+next-timed-back (TimedStep f s) = ap (TimedStep f) (timed-state-back s)
+next-timed-back NoTimedStep = refl
+next-timed-back (TimedStepRefused n) = refl
+
+pub toldTimedIter-loses-nothing : (a b : TimedIter) → toldTimedIter a ≡ toldTimedIter b → a ≡ b
+toldTimedIter-loses-nothing =
+    undone toldTimedIter (λ t. set-out TimedState TimedRefused (timed-of timed) (t .marks) t) timed-iter-back
 
 pub toldNextTimed-loses-nothing : (a b : NextTimed) → toldNextTimed a ≡ toldNextTimed b → a ≡ b
-toldNextTimed-loses-nothing (TimedStep f s) (TimedStep g r) e =
-    ap₂ TimedStep (feet-from-values f g (ap (take 18) (floats e))) (timed-from-told s r (ap (drop 1) (marks e)) (ap (drop 18) (floats e)))
-toldNextTimed-loses-nothing (TimedStep f s) NoTimedStep e = absurd (full _ _ (floats e))
-toldNextTimed-loses-nothing (TimedStep f s) (TimedStepRefused n) e = absurd (full _ _ (marks e))
-toldNextTimed-loses-nothing NoTimedStep (TimedStep g r) e = absurd (full _ _ (sym (floats e)))
-toldNextTimed-loses-nothing NoTimedStep NoTimedStep e = refl
-toldNextTimed-loses-nothing NoTimedStep (TimedStepRefused n) e = absurd (full 0 [] (marks e))
-toldNextTimed-loses-nothing (TimedStepRefused n) (TimedStep g r) e = absurd (full _ _ (sym (marks e)))
-toldNextTimed-loses-nothing (TimedStepRefused n) NoTimedStep e = absurd (full 0 [] (sym (marks e)))
-toldNextTimed-loses-nothing (TimedStepRefused n) (TimedStepRefused k) e = ap TimedStepRefused (number e)
+toldNextTimed-loses-nothing =
+    undone toldNextTimed (λ t. next TimedStep NoTimedStep TimedStepRefused (timed-of timed) (t .marks) t) next-timed-back
+
+-- ---- at even pace
+even-state-back : (s : EvenStepIterator)
+    → timed-of even (liftMarks (s .lift) (s .period)) (liftValues (s .lift) (s .start) (s .last) (s .target)) ≡ s
+unfolding even
+even-state-back s = timed-back even (s .start) (s .last) (s .target) (s .period) (s .lift)
+
+even-iter-back : (a : EvenIter) → set-out EvenState EvenRefused (timed-of even) (toldEvenIter a .marks) (toldEvenIter a) ≡ a
+unfolding set-out
+even-iter-back (EvenState s) = ap EvenState (even-state-back s)
+even-iter-back (EvenRefused n) = refl
+
+next-even-back : (a : NextEven)
+    → next EvenStep NoEvenStep EvenStepRefused (timed-of even) (toldNextEven a .marks) (toldNextEven a) ≡ a
+unfolding next feet-at point-at
+next-even-back (EvenStep f s) = ap (EvenStep f) (even-state-back s)
+next-even-back NoEvenStep = refl
+next-even-back (EvenStepRefused n) = refl
+
+pub toldEvenIter-loses-nothing : (a b : EvenIter) → toldEvenIter a ≡ toldEvenIter b → a ≡ b
+toldEvenIter-loses-nothing =
+    undone toldEvenIter (λ t. set-out EvenState EvenRefused (timed-of even) (t .marks) t) even-iter-back
 
 pub toldNextEven-loses-nothing : (a b : NextEven) → toldNextEven a ≡ toldNextEven b → a ≡ b
-toldNextEven-loses-nothing (EvenStep f s) (EvenStep g r) e =
-    ap₂ EvenStep (feet-from-values f g (ap (take 18) (floats e))) (even-from-told s r (ap (drop 1) (marks e)) (ap (drop 18) (floats e)))
-toldNextEven-loses-nothing (EvenStep f s) NoEvenStep e = absurd (full _ _ (floats e))
-toldNextEven-loses-nothing (EvenStep f s) (EvenStepRefused n) e = absurd (full _ _ (marks e))
-toldNextEven-loses-nothing NoEvenStep (EvenStep g r) e = absurd (full _ _ (sym (floats e)))
-toldNextEven-loses-nothing NoEvenStep NoEvenStep e = refl
-toldNextEven-loses-nothing NoEvenStep (EvenStepRefused n) e = absurd (full 0 [] (marks e))
-toldNextEven-loses-nothing (EvenStepRefused n) (EvenStep g r) e = absurd (full _ _ (sym (marks e)))
-toldNextEven-loses-nothing (EvenStepRefused n) NoEvenStep e = absurd (full 0 [] (sym (marks e)))
-toldNextEven-loses-nothing (EvenStepRefused n) (EvenStepRefused k) e = ap EvenStepRefused (number e)
+toldNextEven-loses-nothing =
+    undone toldNextEven (λ t. next EvenStep NoEvenStep EvenStepRefused (timed-of even) (t .marks) t) next-even-back

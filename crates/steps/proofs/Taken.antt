@@ -1,6 +1,8 @@
 -- What a step taken holds: the feet are those of the six legs, the state after remembers them, and nothing else of it changed.
-use mathlib.Core.Path.{_≡_}
+use mathlib.Core.Path.{_≡_, sym, ap, _∙_}
 use mathlib.Core.Bool.{Bool, true, false}
+use Prim.Native.Nat.{ℕ}
+use native.Mathlib.Omega.{arith}
 use Rattle.numbers.specs.Told.{choose}
 use Rattle.legs.specs.declared.Feet.{Feet}
 use Rattle.moves.specs.Distance.{maxHorizontalDistance}
@@ -10,7 +12,8 @@ use Rattle.moves.specs.declared.FeetStep.the-variants.{Moved, Arrived}
 use Rattle.commands.specs.declared.Time.{Time}
 use Rattle.steps.specs.Progress.{stepProgress, timedProgress, evenProgress}
 use Rattle.steps.specs.Shift.{shiftLegs}
-use Rattle.steps.specs.Next.{stepEnded, timedEnded, stepLift, stepAfter, byTime, timedAfter, evenAfter, nextStep, nextTimed, nextEven}
+use Rattle.steps.specs.Next.{onward, stepEnded, timedEnded, stepLift, byTime, stepLast, timedLast, evenLast}
+use Rattle.steps.specs.Next.{timedAt, evenAt, nextStep, nextTimed, nextEven}
 use Rattle.steps.specs.declared.StepIterator.{StepIterator}
 use Rattle.steps.specs.declared.TimedStepIterator.{TimedStepIterator}
 use Rattle.steps.specs.declared.EvenStepIterator.{EvenStepIterator}
@@ -18,41 +21,86 @@ use Rattle.steps.specs.declared.NextStep.the-variants.{Step, NoStep}
 use Rattle.steps.specs.declared.NextTimed.the-variants.{Step as TimedStep, NoStep as NoTimedStep}
 use Rattle.steps.specs.declared.NextEven.the-variants.{Step as EvenStep, NoStep as NoEvenStep}
 
--- by distance
+-- ---- whatever the state: `step` and `none` are what a step that moved leads to and one that did not, `after` is the state
+-- with these feet as its last
+module _ {S N : Type 0} (step : Feet → S → N) (none : N) (after : S → Feet → S)
+    (some : (f : Feet) (s : S) → none ≡ step f s → ⊥)
+    (one : (f g : Feet) (s r : S) → step f s ≡ step g r → (f ≡ g) × (s ≡ r))
+    (s s' : S) (f : Feet) where
+  taken : (g : FeetStep) → onward (λ h. step h (after s h)) none g ≡ step f s' → (f ≡ feetOf g) × (s' ≡ after s f)
+  unfolding feetOf
+  taken (Arrived h) e = absurd (some f s' e)
+  taken (Moved h) e =
+      let p = one h f (after s h) s' e in
+      (sym (p .0), sym (p .1) ∙ ap (after s) (p .0))
+
+  not-ended : (b : Bool) (g : FeetStep) → choose b none (onward (λ h. step h (after s h)) none g) ≡ step f s'
+      → (f ≡ feetOf g) × (s' ≡ after s f)
+  not-ended true g e = absurd (some f s' e)
+  not-ended false g e = taken g e
+
+  not-ended-by-time : (b : Bool) (last : Feet) (g : FeetStep)
+      → onward (λ h. step h (after s h)) none (choose b (Arrived last) g) ≡ step f s'
+      → (f ≡ feetOf g) × (s' ≡ after s f)
+  not-ended-by-time true last g e = absurd (some f s' e)
+  not-ended-by-time false last g e = taken g e
+
+-- ---- by distance
+step-one : (f g : Feet) (s r : StepIterator) → Step f s ≡ Step g r → (f ≡ g) × (s ≡ r)
+step-one f g s r e = ((cc), (cc))
+
+step-some : (f : Feet) (s : StepIterator) → NoStep ≡ Step f s → ⊥
+step-some f s e = let z : _≡_ {A = ℕ} 0 1 = cc in omega arith
+
 pub step-taken : (s s' : StepIterator) (f : Feet) → nextStep s ≡ Step f s'
-    → f ≡ feetOf (shiftLegs (s .start) (s .last) (s .target) (stepLift s) (stepProgress (maxHorizontalDistance (s .last) (s .start)) (s .«max_move») (maxHorizontalDistance (s .start) (s .target))))
-unfolding nextStep feetOf
+    → (f
+    ≡ feetOf
+    (shiftLegs (s .start) (s .last) (s .target) (stepLift s)
+    (stepProgress
+    (maxHorizontalDistance (s .last) (s .start))
+    (s .«max_move»)
+    (maxHorizontalDistance (s .start) (s .target)))))
+    × (s' ≡ stepLast s f)
+unfolding nextStep
 step-taken s s' f =
-    by-test (stepEnded (maxHorizontalDistance (s .start) (s .target)))
-    (shiftLegs (s .start) (s .last) (s .target) (stepLift s) (stepProgress (maxHorizontalDistance (s .last) (s .start)) (s .«max_move») (maxHorizontalDistance (s .start) (s .target))))
-  where
-    by-test : (b : Bool) (g : FeetStep) → choose b NoStep (stepAfter s g) ≡ Step f s' → f ≡ feetOf g
-    by-test true g e = cc
-    by-test false (Moved x) e = cc
-    by-test false (Arrived x) e = cc
+    not-ended Step NoStep stepLast step-some step-one s s' f
+    (stepEnded (maxHorizontalDistance (s .start) (s .target)))
+    (shiftLegs (s .start) (s .last) (s .target) (stepLift s)
+    (stepProgress
+    (maxHorizontalDistance (s .last) (s .start))
+    (s .«max_move»)
+    (maxHorizontalDistance (s .start) (s .target))))
 
--- by time
+-- ---- by time
+timed-one : (f g : Feet) (s r : TimedStepIterator) → TimedStep f s ≡ TimedStep g r → (f ≡ g) × (s ≡ r)
+timed-one f g s r e = ((cc), (cc))
+
+timed-some : (f : Feet) (s : TimedStepIterator) → NoTimedStep ≡ TimedStep f s → ⊥
+timed-some f s e = let z : _≡_ {A = ℕ} 0 1 = cc in omega arith
+
 pub timed-step-taken : (s s' : TimedStepIterator) (elapsed : Time) (f : Feet) → nextTimed s elapsed ≡ TimedStep f s'
-    → f ≡ feetOf (shiftLegs (s .start) (s .last) (s .target) (s .lift) (timedProgress elapsed (s .period)))
-unfolding nextTimed byTime feetOf
+    → (f ≡ feetOf (shiftLegs (s .start) (s .last) (s .target) (s .lift) (timedProgress elapsed (s .period))))
+    × (s' ≡ timedLast s f)
+unfolding nextTimed timedAt byTime
 timed-step-taken s s' elapsed f =
-    by-test (timedEnded (maxHorizontalDistance (s .start) (s .target)))
+    not-ended-by-time TimedStep NoTimedStep timedLast timed-some timed-one s s' f
+    (timedEnded (maxHorizontalDistance (s .start) (s .target)))
+    (s .last)
     (shiftLegs (s .start) (s .last) (s .target) (s .lift) (timedProgress elapsed (s .period)))
-  where
-    by-test : (b : Bool) (g : FeetStep) → timedAfter s (choose b (Arrived (s .last)) g) ≡ TimedStep f s' → f ≡ feetOf g
-    by-test true g e = cc
-    by-test false (Moved x) e = cc
-    by-test false (Arrived x) e = cc
 
--- at even pace
+-- ---- at even pace
+even-one : (f g : Feet) (s r : EvenStepIterator) → EvenStep f s ≡ EvenStep g r → (f ≡ g) × (s ≡ r)
+even-one f g s r e = ((cc), (cc))
+
+even-some : (f : Feet) (s : EvenStepIterator) → NoEvenStep ≡ EvenStep f s → ⊥
+even-some f s e = let z : _≡_ {A = ℕ} 0 1 = cc in omega arith
+
 pub even-step-taken : (s s' : EvenStepIterator) (elapsed : Time) (f : Feet) → nextEven s elapsed ≡ EvenStep f s'
-    → f ≡ feetOf (shiftLegs (s .start) (s .last) (s .target) (s .lift) (evenProgress elapsed (s .period)))
-unfolding nextEven byTime feetOf
+    → (f ≡ feetOf (shiftLegs (s .start) (s .last) (s .target) (s .lift) (evenProgress elapsed (s .period))))
+    × (s' ≡ evenLast s f)
+unfolding nextEven evenAt byTime
 even-step-taken s s' elapsed f =
-    by-test (timedEnded (maxHorizontalDistance (s .start) (s .target)))
+    not-ended-by-time EvenStep NoEvenStep evenLast even-some even-one s s' f
+    (timedEnded (maxHorizontalDistance (s .start) (s .target)))
+    (s .last)
     (shiftLegs (s .start) (s .last) (s .target) (s .lift) (evenProgress elapsed (s .period)))
-  where
-    by-test : (b : Bool) (g : FeetStep) → evenAfter s (choose b (Arrived (s .last)) g) ≡ EvenStep f s' → f ≡ feetOf g
-    by-test true g e = cc
-    by-test false (Moved x) e = cc
-    by-test false (Arrived x) e = cc

@@ -2,7 +2,8 @@
 use mathlib.Core.Path.{_≡_, refl, sym, ap, _∙_, subst}
 use mathlib.Core.Bool.{Bool, true, false, cond, _&&_, true≢false}
 use Prim.Native.Nat.{ℕ, zero, suc, _+_, _*_, _^_, _≤_, _<_}
-use native.Mathlib.Nat.{le-trans, le-of-eq, lt-of-le-of-lt, lt-of-lt-of-le, mul-le-mul-right, mul-right-comm, mul-one, one-mul, mul-pos, zero-mul, lt-irrefl}
+use native.Mathlib.Nat.{le-trans, le-of-eq, lt-of-le-of-lt, lt-of-lt-of-le, lt-irrefl}
+use native.Mathlib.Nat.{mul-le-mul-right, mul-right-comm, mul-one, one-mul, mul-pos, zero-mul}
 use native.Mathlib.Omega.{arith}
 use borrow.Author.Tests.{ltb-true, leb-true, eqb-true}
 use lib.Dec.{ltb, leb, eqb, lit<, lit≤}
@@ -18,7 +19,8 @@ use Rattle.units.proofs.Add.{add-value}
 use Rattle.units.proofs.Multiply.{div-part}
 use Rattle.units.proofs.Held.{grid-exact}
 use Rattle.units.proofs.Errors.{unity-pos}
-use Rattle.commands.specs.Times.{periodPermitted, wholeNumber, counted, inSeconds, inNanoseconds}
+use Rattle.commands.specs.Times.{periodPermitted, wholeNumber, inSeconds, inNanoseconds}
+use Rattle.numbers.proofs.OnePass.{and-left, and-right}
 use Rattle.commands.specs.declared.Time.{Time}
 
 -- ---- not below zero, and a number or an infinity
@@ -83,7 +85,11 @@ div-from-zero (fin false m e) (fin false n d) p a = by-test (eqb n 0) (eqb-true 
         sym (zero-mul unity) ∙ ap (λ (w : ℕ). w * unity) (sym (zero-mul (up d))) ∙ ap (λ (w : ℕ). w * up d * unity) (sym z) ∙ a .value .1 in
         lt-irrefl 0 (subst (λ (w : ℕ). 0 < w) (sym e) (mul-pos (a .more) (down-pos d)))
 
-    by-test : (b : Bool) → (b ≡ true → n ≡ 0) → FromZero (cond b (cond (eqb m 0) nan (inf false)) (round binary32 false (m * up e * down d) (n * up d * down e)))
+    by-test : (b : Bool) → (b ≡ true → n ≡ 0)
+        → FromZero
+        (cond b
+        (cond (eqb m 0) nan (inf false))
+        (round binary32 false (m * up e * down d) (n * up d * down e)))
     by-test true z = absurd (none (z refl))
     by-test false z = round-from-zero (m * up e * down d) (n * up d * down e)
 
@@ -111,16 +117,13 @@ whole-from-zero n = round-from-zero n 1
 pub seconds-from-zero : (t : Time) → FromZero (inSeconds t)
 unfolding inSeconds
 seconds-from-zero t =
-    add-from-zero (wholeNumber (counted (t .seconds))) (div binary32 (wholeNumber (t .nanoseconds)) (wholeNumber 1000000000))
-    (whole-from-zero (counted (t .seconds)))
+    add-from-zero
+    (wholeNumber (t .seconds))
+    (div binary32 (wholeNumber (t .nanoseconds)) (wholeNumber 1000000000))
+    (whole-from-zero (t .seconds))
     (div-from-zero (wholeNumber (t .nanoseconds)) (wholeNumber 1000000000) (whole-from-zero (t .nanoseconds)) billion-above)
 
 -- ---- a permitted period
-and-true : (a b : Bool) → (a && b) ≡ true → (a ≡ true) × (b ≡ true)
-and-true true true h = (refl, refl)
-and-true true false h = absurd (true≢false (sym h))
-and-true false b h = absurd (true≢false (sym h))
-
 -- a whole number of seconds or nanoseconds, in units
 seconds-value : (n : ℕ) → n ≤ 2 ^ 24 → HasValue (wholeNumber n) false (n * unity) unity
 unfolding wholeNumber
@@ -137,7 +140,9 @@ units-of-nanoseconds n = grid binary32 n 1
 
 at-most-a-billion : (n : ℕ) → n < 1000000000 → units-of-nanoseconds n ≤ 1000000000 * unity
 at-most-a-billion n h =
-    le-trans (grid-mono binary32 n 1 (1000000000 * unity) unity (lit< tt) unity-pos (le-trans (mul-le-mul-right unity (less n h)) (le-of-eq (sym (mul-one (1000000000 * unity))))))
+    le-trans
+    (grid-mono binary32 n 1 (1000000000 * unity) unity (lit< tt) unity-pos
+    (le-trans (mul-le-mul-right unity (less n h)) (le-of-eq (sym (mul-one (1000000000 * unity))))))
     (le-of-eq (grid-exact binary32 1953125 158 (lit< tt) (lit< tt)))
   where
     less : (n : ℕ) → n < 1000000000 → n ≤ 1000000000
@@ -146,7 +151,8 @@ at-most-a-billion n h =
 at-least-a-million : (n : ℕ) → 1000000 ≤ n → 1000000 * unity ≤ units-of-nanoseconds n
 at-least-a-million n h =
     le-trans (le-of-eq (sym (grid-exact binary32 1000000 149 (lit< tt) (lit< tt))))
-    (grid-mono binary32 (1000000 * unity) unity n 1 unity-pos (lit< tt) (le-trans (le-of-eq (mul-one (1000000 * unity))) (mul-le-mul-right unity h)))
+    (grid-mono binary32 (1000000 * unity) unity n 1 unity-pos (lit< tt)
+    (le-trans (le-of-eq (mul-one (1000000 * unity))) (mul-le-mul-right unity h)))
 
 -- that many nanoseconds, divided by 10^9: at most 1 and, from a millisecond on, at least 2^-10
 abbrev part-of-a-second : ℕ → ℕ
@@ -154,13 +160,16 @@ part-of-a-second n = grid binary32 (units-of-nanoseconds n) (1000000000 * unity)
 
 at-most-a-second : (n : ℕ) → n < 1000000000 → part-of-a-second n ≤ unity
 at-most-a-second n h =
-    le-trans (grid-mono binary32 (units-of-nanoseconds n) (1000000000 * unity) unity unity (lit< tt) unity-pos (le-trans (mul-le-mul-right unity (at-most-a-billion n h)) (lit≤ tt)))
+    le-trans
+    (grid-mono binary32 (units-of-nanoseconds n) (1000000000 * unity) unity unity (lit< tt) unity-pos
+    (le-trans (mul-le-mul-right unity (at-most-a-billion n h)) (lit≤ tt)))
     (le-of-eq (grid-exact binary32 1 149 (lit< tt) (lit< tt)))
 
 at-least-a-millisecond : (n : ℕ) → 1000000 ≤ n → 2 ^ 139 ≤ part-of-a-second n
 at-least-a-millisecond n h =
     le-trans (le-of-eq (sym (grid-exact binary32 1 139 (lit< tt) (lit< tt))))
-    (grid-mono binary32 (2 ^ 139) unity (units-of-nanoseconds n) (1000000000 * unity) unity-pos (lit< tt) (le-trans (lit≤ tt) (mul-le-mul-right unity (at-least-a-million n h))))
+    (grid-mono binary32 (2 ^ 139) unity (units-of-nanoseconds n) (1000000000 * unity) unity-pos (lit< tt)
+    (le-trans (lit≤ tt) (mul-le-mul-right unity (at-least-a-million n h))))
 
 whole-value : (n : ℕ) → n < 1000000000 → HasValue (wholeNumber n) false (units-of-nanoseconds n) unity
 unfolding wholeNumber
@@ -184,9 +193,15 @@ module _ (t : Time) (h : periodPermitted t ≡ true) where
   parts : Parts
   unfolding periodPermitted
   parts =
-      let a = and-true (ltb (t .nanoseconds) 1000000000 && leb 1000000 (inNanoseconds t)) (leb (inNanoseconds t) 60000000000) h in
-      let b = and-true (ltb (t .nanoseconds) 1000000000) (leb 1000000 (inNanoseconds t)) (a .0) in
-      record { below = ltb-true _ _ (b .0); least = leb-true _ _ (b .1); most = leb-true _ _ (a .1) }
+      let below = ltb (t .nanoseconds) 1000000000 in
+      let least = leb 1000000 (inNanoseconds t) in
+      let most = leb (inNanoseconds t) 60000000000 in
+      let a = and-left (below && least) most h in
+      record {
+        below = ltb-true _ _ (and-left below least a);
+        least = leb-true _ _ (and-right below least a);
+        most = leb-true _ _ (and-right (below && least) most h);
+      }
 
   abbrev whole : ℕ
   whole = t .seconds * unity + part-of-a-second (t .nanoseconds)
@@ -214,12 +229,14 @@ module _ (t : Time) (h : periodPermitted t ≡ true) where
 
       by-seconds : (s : ℕ) → t .seconds ≡ s → 2 ^ 139 ≤ s * unity + part-of-a-second (t .nanoseconds)
       by-seconds zero e =
-          also (0 * unity) (2 ^ 139) (part-of-a-second (t .nanoseconds)) (at-least-a-millisecond (t .nanoseconds) (none (t .seconds) (t .nanoseconds) e (parts .least)))
+          also (0 * unity) (2 ^ 139) (part-of-a-second (t .nanoseconds))
+          (at-least-a-millisecond (t .nanoseconds) (none (t .seconds) (t .nanoseconds) e (parts .least)))
         where
           none : (s n : ℕ) → s ≡ 0 → 1000000 ≤ s * 1000000000 + n → 1000000 ≤ n
           none s n e h = omega arith
       by-seconds (suc s) e =
-          more (2 ^ 139) (suc s * unity) (part-of-a-second (t .nanoseconds)) (le-trans (lit≤ tt) (le-trans (le-of-eq (sym (one-mul unity))) (mul-le-mul-right unity (one-more s))))
+          more (2 ^ 139) (suc s * unity) (part-of-a-second (t .nanoseconds))
+          (le-trans (lit≤ tt) (le-trans (le-of-eq (sym (one-mul unity))) (mul-le-mul-right unity (one-more s))))
         where
           one-more : (s : ℕ) → 1 ≤ suc s
           one-more s = omega arith
@@ -230,14 +247,21 @@ module _ (t : Time) (h : periodPermitted t ≡ true) where
       record {
         q = grid binary32 whole unity;
         value =
-            add-value binary32 (wholeNumber (counted (t .seconds))) (div binary32 (wholeNumber (t .nanoseconds)) (wholeNumber 1000000000)) (t .seconds * unity) (part-of-a-second (t .nanoseconds))
-            (subst (λ (n : ℕ). HasValue (wholeNumber n) false (t .seconds * unity) unity) (sym (uncut (t .seconds) seconds-few)) (seconds-value (t .seconds) (le-trans seconds-few (lit≤ tt))))
+            add-value binary32
+            (wholeNumber (t .seconds))
+            (div binary32 (wholeNumber (t .nanoseconds)) (wholeNumber 1000000000))
+            (t .seconds * unity)
+            (part-of-a-second (t .nanoseconds))
+            (seconds-value (t .seconds) (le-trans seconds-few (lit≤ tt)))
             (part-value (t .nanoseconds) (parts .below))
-            (lt-of-le-of-lt (le-trans (grid-mono binary32 whole unity (61 * unity) unity unity-pos unity-pos (mul-le-mul-right unity whole-most)) (le-of-eq (grid-exact binary32 61 149 (lit< tt) (lit< tt)))) (lit< tt));
+            (lt-of-le-of-lt
+            (le-trans
+            (grid-mono binary32 whole unity (61 * unity) unity unity-pos unity-pos (mul-le-mul-right unity whole-most))
+            (le-of-eq (grid-exact binary32 61 149 (lit< tt) (lit< tt))))
+            (lit< tt));
         more =
             lt-of-lt-of-le (lit< tt)
-            (le-trans (le-of-eq (sym (grid-exact binary32 1 139 (lit< tt) (lit< tt)))) (grid-mono binary32 (2 ^ 139) unity whole unity unity-pos unity-pos (mul-le-mul-right unity whole-least)));
+            (le-trans
+            (le-of-eq (sym (grid-exact binary32 1 139 (lit< tt) (lit< tt))))
+            (grid-mono binary32 (2 ^ 139) unity whole unity unity-pos unity-pos (mul-le-mul-right unity whole-least)));
       }
-    where
-      uncut : (s : ℕ) → s ≤ 60 → counted s ≡ s
-      uncut s h = omega arith

@@ -1,30 +1,34 @@
--- No number passes a limit inside: where the door lets a state and a time through, a step asks for the sine of a number within document 01's row, or for none.
+-- No number passes a limit inside: where the door lets a state and a time through, a step asks for the sine of a number
+-- within document 01's row, or for none.
 use Rattle.commands.specs.Constants.{one}
 use mathlib.Core.Path.{_≡_, refl, sym, subst}
 use mathlib.Core.Logic.{_⊎_, inl, inr}
-use mathlib.Core.Bool.{Bool, true, false, not, _&&_, true≢false}
-use mathlib.Core.List.{[], _∷_}
+use mathlib.Core.Bool.{Bool, true, false, not, true≢false}
 use Prim.Native.Nat.{ℕ, _+_, _*_, _≤_, _<_}
 use native.Mathlib.Omega.{arith}
 use lib.Dec.{T, lit≤, lit<}
 use lib.Ieee.{Float, nan, inf, fin, binary32, mul, div, lt, le, fits}
 use lib.Ieee.Fits.{div-fits}
-use Rattle.numbers.specs.Door.{finite, permits, unless, either, firstOf}
+use Rattle.numbers.specs.Door.{permits}
 use Rattle.numbers.specs.Limits.{over}
 use Rattle.numbers.specs.Limits as rows
 use Rattle.units.specs.Units.{unity, Part, hi, lo}
 use Rattle.units.proofs.Held.{single}
 use Rattle.units.proofs.Order.{not-le-part}
+use Rattle.legs.specs.declared.Feet.{Feet}
 use Rattle.bounds.specs.Between.{Between}
 use Rattle.bounds.proofs.Between.{product-between}
 use Rattle.bounds.proofs.Rows.{sine-row}
 use Rattle.commands.specs.Times.{elapsedPermitted, periodPermitted, inSeconds}
 use Rattle.commands.specs.declared.Time.{Time}
+use Rattle.numbers.proofs.OnePass.{and-right}
 use Rattle.steps.specs.Leg.{halfTurn}
 use Rattle.steps.specs.Progress.{timedProgress, evenProgress}
-use Rattle.steps.specs.Refusals.{finiteCourse, permittedCourse, liftRefusal, atRefusal}
+use Rattle.steps.specs.Refusals.{timely, liftRefusal}
+use Rattle.steps.specs.declared.Lift.{Lift}
 use Rattle.steps.specs.declared.TimedStepIterator.{TimedStepIterator}
 use Rattle.steps.specs.declared.EvenStepIterator.{EvenStepIterator}
+use Rattle.steps.proofs.Uncapped.{step-in-time}
 use Rattle.steps.proofs.Times.{FromZero, div-from-zero, seconds-from-zero, period-above}
 
 -- the step is done and no sine is asked for, or it is asked for within the table
@@ -87,31 +91,21 @@ even-asked elapsed period h =
     (div-from-zero (inSeconds elapsed) (inSeconds period) (seconds-from-zero elapsed) (period-above period h))
     (div-fits binary32 (inSeconds elapsed) (inSeconds period))
 
--- no refusal says that the period is permitted
-none-refused : (F P Q E : Bool) → either (firstOf (unless F 1 ∷ unless P 2 ∷ unless Q 3 ∷ [])) (unless E 3) ≡ 0 → Q ≡ true
-none-refused true true true E e = refl
-none-refused true true false E e = absurd (omega arith)
-none-refused true false Q E e = absurd (omega arith)
-none-refused false P Q E e = absurd (omega arith)
+-- where nothing is refused, both times are in the table
+module _ (start last target : Feet) (lift : Lift) (elapsed period : Time) where
+  period-taken : liftRefusal start last target lift (timely elapsed period) ≡ 0 → periodPermitted period ≡ true
+  period-taken e =
+      and-right (elapsedPermitted elapsed) (periodPermitted period)
+      (step-in-time start last target lift (timely elapsed period) e)
 
-pub timed-within : (s : TimedStepIterator) (elapsed : Time) → atRefusal (s .start) (s .last) (s .target) (s .lift) (s .period) elapsed ≡ 0 → SineAsked (timedProgress elapsed (s .period))
-unfolding atRefusal liftRefusal
+pub timed-within : (s : TimedStepIterator) (elapsed : Time)
+    → liftRefusal (s .start) (s .last) (s .target) (s .lift) (timely elapsed (s .period)) ≡ 0
+    → SineAsked (timedProgress elapsed (s .period))
 timed-within s elapsed e =
-    timed-asked elapsed (s .period)
-    (none-refused
-    (finiteCourse (s .start) (s .last) (s .target) && finite (s .lift .«step_height») && finite (s .lift .«grounded_leg_descent»))
-    (permittedCourse (s .start) (s .last) (s .target) && permits rows.direction (s .lift .«step_height») && permits rows.direction (s .lift .«grounded_leg_descent»))
-    (periodPermitted (s .period))
-    (elapsedPermitted elapsed)
-    e)
+    timed-asked elapsed (s .period) (period-taken (s .start) (s .last) (s .target) (s .lift) elapsed (s .period) e)
 
-pub even-within : (s : EvenStepIterator) (elapsed : Time) → atRefusal (s .start) (s .last) (s .target) (s .lift) (s .period) elapsed ≡ 0 → SineAsked (evenProgress elapsed (s .period))
-unfolding atRefusal liftRefusal
+pub even-within : (s : EvenStepIterator) (elapsed : Time)
+    → liftRefusal (s .start) (s .last) (s .target) (s .lift) (timely elapsed (s .period)) ≡ 0
+    → SineAsked (evenProgress elapsed (s .period))
 even-within s elapsed e =
-    even-asked elapsed (s .period)
-    (none-refused
-    (finiteCourse (s .start) (s .last) (s .target) && finite (s .lift .«step_height») && finite (s .lift .«grounded_leg_descent»))
-    (permittedCourse (s .start) (s .last) (s .target) && permits rows.direction (s .lift .«step_height») && permits rows.direction (s .lift .«grounded_leg_descent»))
-    (periodPermitted (s .period))
-    (elapsedPermitted elapsed)
-    e)
+    even-asked elapsed (s .period) (period-taken (s .start) (s .last) (s .target) (s .lift) elapsed (s .period) e)

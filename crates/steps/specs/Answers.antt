@@ -1,5 +1,6 @@
--- Document 01's number and values for each case of an answer on steps. The first mark is 1 for a step and 0 for none; a state's marks are its
--- tripod (LRL 0, RLR 1), the aggressive flag and, by time, the period; its values are its heights and max move, then start, last and target.
+-- Document 01's number and values for each case of an answer on steps. The first mark is 1 for a step and 0 for none; a
+-- state's marks are its tripod (LRL 0, RLR 1), the aggressive flag and, by time, the period; its values are its heights and
+-- max move, then start, last and target.
 use Prim.Native.Nat.{ℕ}
 use mathlib.Core.List.{List, [], _∷_, _++_}
 use lib.Ieee.{Float}
@@ -7,13 +8,10 @@ use Rattle.numbers.specs.Told.{Told, refused, given}
 use Rattle.legs.specs.Legs.{row, foot, coordinates, values}
 use Rattle.legs.specs.declared.Feet.{Feet}
 use Rattle.moves.specs.Answers.{ofFeet}
-use Rattle.commands.specs.Answers.{mark}
-use Rattle.commands.specs.Tripods.{isRLR}
+use Rattle.commands.specs.Answers.{mark, tripodMark}
 use Rattle.commands.specs.declared.Time.{Time}
 use Rattle.steps.specs.declared.Lift.{Lift}
 use Rattle.steps.specs.declared.StepIterator.{StepIterator}
-use Rattle.steps.specs.declared.TimedStepIterator.{TimedStepIterator}
-use Rattle.steps.specs.declared.EvenStepIterator.{EvenStepIterator}
 use Rattle.steps.specs.declared.StepIter.{StepIter}
 use Rattle.steps.specs.declared.StepIter.the-variants.{State, Refused}
 use Rattle.steps.specs.declared.TimedIter.{TimedIter}
@@ -33,56 +31,54 @@ course start last target = values coordinates (row (foot start) ++ row (foot las
 
 -- a state by distance
 abbrev pub stepMarks : StepIterator → List ℕ
-stepMarks s = mark (isRLR (s .tripod)) ∷ mark (s .«aggressive_leg_lift») ∷ []
+stepMarks s = tripodMark (s .tripod) ∷ mark (s .«aggressive_leg_lift») ∷ []
 
 abbrev pub stepValues : StepIterator → List Float
 stepValues s = s .«max_move» ∷ s .«step_height» ∷ course (s .start) (s .last) (s .target)
 
--- a state by time
+-- a state by time, at either pace
 abbrev pub liftMarks : Lift → Time → List ℕ
 liftMarks lift period =
-    mark (isRLR (lift .tripod)) ∷ mark (lift .«aggressive_leg_lift») ∷ period .seconds ∷ period .nanoseconds ∷ []
+    tripodMark (lift .tripod) ∷ mark (lift .«aggressive_leg_lift») ∷ period .seconds ∷ period .nanoseconds ∷ []
 
 abbrev pub liftValues : Lift → Feet → Feet → Feet → List Float
 liftValues lift start last target = lift .«step_height» ∷ lift .«grounded_leg_descent» ∷ course start last target
 
-abbrev pub timedMarks : TimedStepIterator → List ℕ
-timedMarks s = liftMarks (s .lift) (s .period)
+-- a step: the new feet, then the state after it; none: no floats
+abbrev pub givenStep : Feet → List ℕ → List Float → Told
+givenStep f ks xs = given (1 ∷ ks) (ofFeet f ++ xs)
 
-abbrev pub timedValues : TimedStepIterator → List Float
-timedValues s = liftValues (s .lift) (s .start) (s .last) (s .target)
+abbrev pub givenNone : Told
+givenNone = given (0 ∷ []) []
 
-abbrev pub evenMarks : EvenStepIterator → List ℕ
-evenMarks s = liftMarks (s .lift) (s .period)
-
-abbrev pub evenValues : EvenStepIterator → List Float
-evenValues s = liftValues (s .lift) (s .start) (s .last) (s .target)
-
--- setting out: the state
+-- by distance: setting out, and the next step
 abbrev pub toldStepIter : StepIter → Told
 toldStepIter (State s) = given (stepMarks s) (stepValues s)
 toldStepIter (Refused n) = refused n
 
-abbrev pub toldTimedIter : TimedIter → Told
-toldTimedIter (TimedState s) = given (timedMarks s) (timedValues s)
-toldTimedIter (TimedRefused n) = refused n
-
-abbrev pub toldEvenIter : EvenIter → Told
-toldEvenIter (EvenState s) = given (evenMarks s) (evenValues s)
-toldEvenIter (EvenRefused n) = refused n
-
--- a step: the new feet, then the state after it; none: no floats
 abbrev pub toldNextStep : NextStep → Told
-toldNextStep (Step f s) = given (1 ∷ stepMarks s) (ofFeet f ++ stepValues s)
-toldNextStep NoStep = given (0 ∷ []) []
+toldNextStep (Step f s) = givenStep f (stepMarks s) (stepValues s)
+toldNextStep NoStep = givenNone
 toldNextStep (StepRefused n) = refused n
 
+-- by time
+abbrev pub toldTimedIter : TimedIter → Told
+toldTimedIter (TimedState s) = given (liftMarks (s .lift) (s .period)) (liftValues (s .lift) (s .start) (s .last) (s .target))
+toldTimedIter (TimedRefused n) = refused n
+
 abbrev pub toldNextTimed : NextTimed → Told
-toldNextTimed (TimedStep f s) = given (1 ∷ timedMarks s) (ofFeet f ++ timedValues s)
-toldNextTimed NoTimedStep = given (0 ∷ []) []
+toldNextTimed (TimedStep f s) =
+    givenStep f (liftMarks (s .lift) (s .period)) (liftValues (s .lift) (s .start) (s .last) (s .target))
+toldNextTimed NoTimedStep = givenNone
 toldNextTimed (TimedStepRefused n) = refused n
 
+-- at even pace
+abbrev pub toldEvenIter : EvenIter → Told
+toldEvenIter (EvenState s) = given (liftMarks (s .lift) (s .period)) (liftValues (s .lift) (s .start) (s .last) (s .target))
+toldEvenIter (EvenRefused n) = refused n
+
 abbrev pub toldNextEven : NextEven → Told
-toldNextEven (EvenStep f s) = given (1 ∷ evenMarks s) (ofFeet f ++ evenValues s)
-toldNextEven NoEvenStep = given (0 ∷ []) []
+toldNextEven (EvenStep f s) =
+    givenStep f (liftMarks (s .lift) (s .period)) (liftValues (s .lift) (s .start) (s .last) (s .target))
+toldNextEven NoEvenStep = givenNone
 toldNextEven (EvenStepRefused n) = refused n

@@ -4,12 +4,13 @@ use mathlib.Core.List.{[], _∷_}
 use lib.Ieee.{Float}
 use Rattle.numbers.specs.Told.{Told, given, answer}
 use Rattle.legs.specs.declared.Feet.{Feet}
+use Rattle.commands.specs.Times.{periodPermitted}
 use Rattle.commands.specs.declared.Time.{Time}
 use Rattle.commands.specs.declared.Tripod.{Tripod}
 use Rattle.steps.specs.Progress.{timedProgress, evenProgress}
 use Rattle.steps.specs.Next.{nextStep, nextTimed, nextEven}
 use Rattle.steps.specs.Answers.{stepMarks, stepValues, liftMarks, liftValues, toldNextStep, toldNextTimed, toldNextEven}
-use Rattle.steps.specs.Refusals.{progressRefusal, stepRefusal, liftRefusal, atRefusal}
+use Rattle.steps.specs.Refusals.{timely, progressRefusal, stepRefusal, liftRefusal}
 use Rattle.steps.specs.declared.Lift.{Lift}
 use Rattle.steps.specs.declared.StepIterator.{StepIterator}
 use Rattle.steps.specs.declared.TimedStepIterator.{TimedStepIterator}
@@ -49,18 +50,18 @@ nextStepTold s = answer (stepRefusal s) (toldNextStep (nextStep s))
 unfoldable pub timedIterTold : Feet → Feet → Time → Lift → Told
 timedIterTold start target period lift =
     answer
-    (liftRefusal start start target lift period)
+    (liftRefusal start start target lift (periodPermitted period))
     (given (liftMarks lift period) (liftValues lift start start target))
 
 unfoldable pub nextTimedTold : TimedStepIterator → Time → Told
 nextTimedTold s elapsed =
     answer
-    (atRefusal (s .start) (s .last) (s .target) (s .lift) (s .period) elapsed)
+    (liftRefusal (s .start) (s .last) (s .target) (s .lift) (timely elapsed (s .period)))
     (toldNextTimed (nextTimed s elapsed))
 
 -- at even pace
 unfoldable pub nextEvenTold : EvenStepIterator → Time → Told
 nextEvenTold s elapsed =
     answer
-    (atRefusal (s .start) (s .last) (s .target) (s .lift) (s .period) elapsed)
+    (liftRefusal (s .start) (s .last) (s .target) (s .lift) (timely elapsed (s .period)))
     (toldNextEven (nextEven s elapsed))

@@ -1,4 +1,5 @@
--- How ours computes a leg's step: the sine is asked for once for all six legs, and only where a height needs it. Nothing of document 01.
+-- How ours computes a leg's step: the sine is asked for once for all six legs, and only where a height needs it. Nothing of
+-- document 01.
 use Rattle.commands.specs.Constants.{nought, one}
 use mathlib.Core.Bool.{Bool, _&&_, _||_}
 use lib.Ieee.{Float, binary32, add, mul, lt, le}
@@ -8,7 +9,7 @@ use Rattle.sines.specs.How.{sine}
 use Rattle.moves.specs.Distance.{same}
 use Rattle.moves.specs.declared.MoveStep.{MoveStep}
 use Rattle.moves.specs.declared.MoveStep.the-variants.{Moved, Arrived}
-use Rattle.steps.specs.Leg.{half, halfTurn, along}
+use Rattle.steps.specs.Leg.{half, halfTurn, partWay}
 
 unfoldable pub atOnce : Bool → Float → Bool
 atOnce aggressive progress = aggressive && lt progress half
@@ -31,7 +32,7 @@ legAt start last target progress up =
     (Moved target)
     (Moved
     (record {
-      x = along progress (start .x) (target .x);
-      y = along progress (start .y) (target .y);
+      x = partWay progress (start .x) (target .x);
+      y = partWay progress (start .y) (target .y);
       z = add binary32 up (start .z);
     })))

@@ -1,5 +1,6 @@
--- Document 01, "Steps": one leg. "last equals target, target, not moved; progress >= 1, target, moved. Else x, y are start + (target - start) * progress,
--- and z is sine(progress * P) * height + start z, or height + start z in aggressive mode while progress < 0.5."
+-- Document 01, "Steps": one leg. "last equals target, target, not moved; progress >= 1, target, moved. Else x, y are
+-- start + (target - start) * progress, and z is sine(progress * P) * height + start z, or height + start z in aggressive
+-- mode while progress < 0.5."
 use Rattle.commands.specs.Constants.{one}
 use Prim.Native.Nat.{_^_}
 use mathlib.Core.Bool.{Bool, _&&_}
@@ -19,8 +20,8 @@ half = over 1 2
 unfoldable pub halfTurn : Float
 halfTurn = over 13176795 (2 ^ 22)
 
-abbrev pub along : Float → Float → Float → Float
-along progress start target = add binary32 start (mul binary32 (sub binary32 target start) progress)
+abbrev pub partWay : Float → Float → Float → Float
+partWay progress start target = add binary32 start (mul binary32 (sub binary32 target start) progress)
 
 -- the height above the start
 abbrev pub above : Float → Float → Bool → Float
@@ -37,7 +38,7 @@ stepLiftedLeg start last target height progress aggressive =
     (Moved target)
     (Moved
     (record {
-      x = along progress (start .x) (target .x);
-      y = along progress (start .y) (target .y);
+      x = partWay progress (start .x) (target .x);
+      y = partWay progress (start .y) (target .y);
       z = add binary32 (above height progress aggressive) (start .z);
     })))

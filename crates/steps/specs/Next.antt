@@ -1,9 +1,9 @@
--- Document 01, "Steps": the three iterators. A step that moved hands on its feet, and the state that remembers them; "No step" leaves all as it is.
+-- Document 01, "Steps": the three iterators. A step that moved hands on its feet, and the state that remembers them;
+-- "No step" leaves all as it is.
 use Rattle.commands.specs.Constants.{nought}
 use mathlib.Core.Bool.{Bool}
 use lib.Ieee.{Float, eq, le}
 use Rattle.numbers.specs.Told.{choose}
-use Rattle.numbers.specs.Limits.{over}
 use Rattle.legs.specs.declared.Feet.{Feet}
 use Rattle.moves.specs.Distance.{maxHorizontalDistance}
 use Rattle.moves.specs.declared.FeetStep.{FeetStep}
@@ -30,6 +30,11 @@ stepEnded full = eq full nought
 abbrev pub timedEnded : Float → Bool
 timedEnded full = le full nought
 
+-- what follows a step: its feet go on, or there is none
+abbrev pub onward : {N : Type 0} → (Feet → N) → N → FeetStep → N
+onward step none (Moved f) = step f
+onward step none (Arrived f) = none
+
 -- `StepIterator`: "its descent is 0"
 abbrev pub stepLift : StepIterator → Lift
 stepLift s =
@@ -40,10 +45,10 @@ stepLift s =
       «aggressive_leg_lift» = s .«aggressive_leg_lift»;
     }
 
-abbrev pub stepAfter : StepIterator → FeetStep → NextStep
-stepAfter s (Moved f) =
-    Step f
-    (record {
+-- the state with these feet as its last
+abbrev pub stepLast : StepIterator → Feet → StepIterator
+stepLast s f =
+    record {
       start = s .start;
       last = f;
       target = s .target;
@@ -51,8 +56,10 @@ stepAfter s (Moved f) =
       «step_height» = s .«step_height»;
       tripod = s .tripod;
       «aggressive_leg_lift» = s .«aggressive_leg_lift»;
-    })
-stepAfter s (Arrived f) = NoStep
+    }
+
+abbrev pub stepAfter : StepIterator → FeetStep → NextStep
+stepAfter s = onward (λ f. Step f (stepLast s f)) NoStep
 
 unfoldable pub nextStep : StepIterator → NextStep
 nextStep s =
@@ -72,20 +79,28 @@ byTime start last target lift progress =
     (Arrived last)
     (shiftLegs start last target lift progress)
 
+abbrev pub timedLast : TimedStepIterator → Feet → TimedStepIterator
+timedLast s f = record { start = s .start; last = f; target = s .target; period = s .period; lift = s .lift }
+
 abbrev pub timedAfter : TimedStepIterator → FeetStep → NextTimed
-timedAfter s (Moved f) =
-    TimedStep f (record { start = s .start; last = f; target = s .target; period = s .period; lift = s .lift })
-timedAfter s (Arrived f) = NoTimedStep
+timedAfter s = onward (λ f. TimedStep f (timedLast s f)) NoTimedStep
+
+-- at this progress, and at this time
+unfoldable pub timedAt : TimedStepIterator → Float → NextTimed
+timedAt s progress = timedAfter s (byTime (s .start) (s .last) (s .target) (s .lift) progress)
 
 unfoldable pub nextTimed : TimedStepIterator → Time → NextTimed
-nextTimed s elapsed =
-    timedAfter s (byTime (s .start) (s .last) (s .target) (s .lift) (timedProgress elapsed (s .period)))
+nextTimed s elapsed = timedAt s (timedProgress elapsed (s .period))
+
+-- at even pace
+abbrev pub evenLast : EvenStepIterator → Feet → EvenStepIterator
+evenLast s f = record { start = s .start; last = f; target = s .target; period = s .period; lift = s .lift }
 
 abbrev pub evenAfter : EvenStepIterator → FeetStep → NextEven
-evenAfter s (Moved f) =
-    EvenStep f (record { start = s .start; last = f; target = s .target; period = s .period; lift = s .lift })
-evenAfter s (Arrived f) = NoEvenStep
+evenAfter s = onward (λ f. EvenStep f (evenLast s f)) NoEvenStep
+
+unfoldable pub evenAt : EvenStepIterator → Float → NextEven
+evenAt s progress = evenAfter s (byTime (s .start) (s .last) (s .target) (s .lift) progress)
 
 unfoldable pub nextEven : EvenStepIterator → Time → NextEven
-nextEven s elapsed =
-    evenAfter s (byTime (s .start) (s .last) (s .target) (s .lift) (evenProgress elapsed (s .period)))
+nextEven s elapsed = evenAt s (evenProgress elapsed (s .period))

@@ -1,12 +1,11 @@
 -- Document 01, "Steps": "All six legs follow it, and if none moved there is no step; the three that stand use the descent as height."
 use lib.Ieee.{Float}
 use Rattle.numbers.specs.Told.{choose}
-use Rattle.legs.specs.Legs.{Leg, foot, feet, some}
+use Rattle.legs.specs.Legs.{Leg, foot}
 use Rattle.legs.specs.declared.Feet.{Feet}
-use Rattle.moves.specs.Moving.{pointOf, hasMoved}
+use Rattle.moves.specs.Moving.{together}
 use Rattle.moves.specs.declared.MoveStep.{MoveStep}
 use Rattle.moves.specs.declared.FeetStep.{FeetStep}
-use Rattle.moves.specs.declared.FeetStep.the-variants.{Moved, Arrived}
 use Rattle.commands.specs.Tripods.{has}
 use Rattle.steps.specs.Leg.{stepLiftedLeg}
 use Rattle.steps.specs.declared.Lift.{Lift}
@@ -19,13 +18,6 @@ abbrev pub legStep : Feet → Feet → Feet → Lift → Float → Leg → MoveS
 legStep start last target lift progress l =
     stepLiftedLeg (foot start l) (foot last l) (foot target l) (heightOf lift l) progress
     (lift .«aggressive_leg_lift»)
-
--- six steps share one flag: whether one of them moved
-abbrev pub together : (Leg → MoveStep) → FeetStep
-together g =
-    choose (some (λ l. hasMoved (g l)))
-    (Moved (feet (λ l. pointOf (g l))))
-    (Arrived (feet (λ l. pointOf (g l))))
 
 unfoldable pub shiftLegs : Feet → Feet → Feet → Lift → Float → FeetStep
 shiftLegs start last target lift progress = together (legStep start last target lift progress)

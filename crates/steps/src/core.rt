@@ -13,14 +13,27 @@ use legs::Point;
 use moves::FeetStep;
 use moves::MoveStep;
 ghost use mathlib.Core.Path.{_≡_};
-ghost use Rattle.numbers.specs.Told.{choose};
-ghost use Rattle.steps.specs.Refusals.{finiteCourse, permittedCourse};
+ghost use Rattle.commands.specs.How.{capped};
+ghost use Rattle.steps.specs.Refusals.{timely, finiteCourse, permittedCourse};
 ghost use Rattle.steps.specs.Progress.{stepProgress, timedProgress, evenProgress};
 ghost use Rattle.steps.specs.Leg.{stepLiftedLeg};
 ghost use Rattle.legs.specs.Legs.{leftFront, rightFront};
 ghost use Rattle.steps.specs.Shift.{heightOf, shiftLegs};
 ghost use Rattle.steps.specs.How.{atOnce, swing, raised, legAt};
-ghost use Rattle.steps.specs.Next.{nextStep, byTime, nextTimed, nextEven};
+ghost use Rattle.steps.specs.Next.{nextStep, byTime, timedAt, evenAt};
+
+// Where in its step a leg is: how far along its way, and how far above its start.
+struct Stage {
+    progress: f32,
+    above: f32,
+}
+
+// Whether an elapsed time and a period are both in the table.
+pub fn is_timely(elapsed: Time, period: Time) -> bool
+    ensures { λ r. ⌜ r ≡ timely elapsed period ⌝ }
+{
+    commands::core::is_elapsed(elapsed) & commands::core::is_period(period)
+}
 
 // How far the step is: what the feet have gone by now and max_move more, as a part of the whole way.
 pub fn step_progress(gone: f32, max_move: f32, full: f32) -> f32
@@ -31,7 +44,7 @@ pub fn step_progress(gone: f32, max_move: f32, full: f32) -> f32
 
 // How far the step is by time, divided by the period twice, as in the source.
 pub fn timed_progress(elapsed: Time, period: Time) -> f32
-    ensures { λ r. ⌜ r ≡ timedProgress elapsed period ⌝ }
+    ensures { λ r. ⌜ r ≡ timedProgress (capped elapsed) (capped period) ⌝ }
 {
     let seconds = commands::core::as_secs_f32(period);
     commands::core::as_secs_f32(elapsed) / seconds / seconds
@@ -39,7 +52,7 @@ pub fn timed_progress(elapsed: Time, period: Time) -> f32
 
 // The same at even pace, divided once.
 pub fn even_progress(elapsed: Time, period: Time) -> f32
-    ensures { λ r. ⌜ r ≡ evenProgress elapsed period ⌝ }
+    ensures { λ r. ⌜ r ≡ evenProgress (capped elapsed) (capped period) ⌝ }
 {
     let whole = commands::core::as_secs_f32(period);
     commands::core::as_secs_f32(elapsed) / whole
@@ -70,10 +83,12 @@ fn raised(at_once: bool, swing: f32, height: f32) -> f32
     if at_once { height } else { swing * height }
 }
 
-// One leg's step, where the foot is this far above its start.
-fn leg_at(start: Point, last: Point, target: Point, progress: f32, above: f32) -> MoveStep
-    ensures { λ r. ⌜ r ≡ legAt start last target progress above ⌝ }
+// One leg's step, at this stage.
+fn leg_at(start: Point, last: Point, target: Point, at: Stage) -> MoveStep
+    ensures { λ r. ⌜ r ≡ legAt start last target (at .progress) (at .above) ⌝ }
 {
+    let progress = at.progress;
+    let above = at.above;
     if moves::core::is_same(last, target) {
         return MoveStep::Arrived(target);
     }
@@ -99,8 +114,11 @@ pub fn step_lifted_leg(
     ensures { λ r. ⌜ r ≡ stepLiftedLeg start last target height progress aggressive ⌝ }
 {
     let now = at_once(aggressive, progress);
-    let above = raised(now, swing(now, progress), height);
-    leg_at(start, last, target, progress, above)
+    let at = Stage {
+        progress: progress,
+        above: raised(now, swing(now, progress), height),
+    };
+    leg_at(start, last, target, at)
 }
 
 // The height of left front, right middle and left rear: the step's where they are lifted, else the descent.
@@ -125,82 +143,33 @@ fn height_rlr(lift: Lift) -> f32
     }
 }
 
-// The six feet of a step, with the flag that they share.
-fn shared(moved: bool, feet: Feet) -> FeetStep
-    ensures { λ r. ⌜ r ≡ choose moved (FeetStep.Moved feet) (FeetStep.Arrived feet) ⌝ }
-{
-    if moved {
-        FeetStep::Moved(feet)
-    } else {
-        FeetStep::Arrived(feet)
-    }
-}
-
 // All six legs follow the one rule; the three that stand use the descent as height.
 pub fn shift_legs(start: Feet, last: Feet, target: Feet, lift: Lift, progress: f32) -> FeetStep
     ensures { λ r. ⌜ r ≡ shiftLegs start last target lift progress ⌝ }
 {
     let now = at_once(lift.aggressive_leg_lift, progress);
     let swing = swing(now, progress);
-    let lrl = raised(now, swing, height_lrl(lift));
-    let rlr = raised(now, swing, height_rlr(lift));
-    let lf = leg_at(
-        start.left_front,
-        last.left_front,
-        target.left_front,
-        progress,
-        lrl,
-    );
-    let rf = leg_at(
-        start.right_front,
-        last.right_front,
-        target.right_front,
-        progress,
-        rlr,
-    );
-    let lm = leg_at(
-        start.left_middle,
-        last.left_middle,
-        target.left_middle,
-        progress,
-        rlr,
-    );
-    let rm = leg_at(
-        start.right_middle,
-        last.right_middle,
-        target.right_middle,
-        progress,
-        lrl,
-    );
-    let lr = leg_at(
-        start.left_rear,
-        last.left_rear,
-        target.left_rear,
-        progress,
-        lrl,
-    );
-    let rr = leg_at(
-        start.right_rear,
-        last.right_rear,
-        target.right_rear,
-        progress,
-        rlr,
-    );
-    let moved = moves::core::has_moved(lf)
-        | moves::core::has_moved(rf)
-        | moves::core::has_moved(lm)
-        | moves::core::has_moved(rm)
-        | moves::core::has_moved(lr)
-        | moves::core::has_moved(rr);
-    let feet = Feet {
-        left_front: moves::core::point_of(lf),
-        left_middle: moves::core::point_of(lm),
-        left_rear: moves::core::point_of(lr),
-        right_front: moves::core::point_of(rf),
-        right_middle: moves::core::point_of(rm),
-        right_rear: moves::core::point_of(rr),
+    let lrl = Stage {
+        progress: progress,
+        above: raised(now, swing, height_lrl(lift)),
     };
-    shared(moved, feet)
+    let rlr = Stage {
+        progress: progress,
+        above: raised(now, swing, height_rlr(lift)),
+    };
+    moves::core::together(
+        leg_at(start.left_front, last.left_front, target.left_front, lrl),
+        leg_at(start.right_front, last.right_front, target.right_front, rlr),
+        leg_at(start.left_middle, last.left_middle, target.left_middle, rlr),
+        leg_at(
+            start.right_middle,
+            last.right_middle,
+            target.right_middle,
+            lrl,
+        ),
+        leg_at(start.left_rear, last.left_rear, target.left_rear, lrl),
+        leg_at(start.right_rear, last.right_rear, target.right_rear, rlr),
+    )
 }
 
 // One step more by distance. The source's descent is 0.
@@ -248,11 +217,10 @@ fn by_time(start: Feet, last: Feet, target: Feet, lift: Lift, progress: f32) -> 
     }
 }
 
-// One step more by time.
-pub fn next_timed(s: TimedStepIterator, elapsed: Time) -> NextTimed
-    ensures { λ r. ⌜ r ≡ nextTimed s elapsed ⌝ }
+// One step more by time, at this progress.
+pub fn next_timed(s: TimedStepIterator, progress: f32) -> NextTimed
+    ensures { λ r. ⌜ r ≡ timedAt s progress ⌝ }
 {
-    let progress = timed_progress(elapsed, s.period);
     let step = by_time(s.start, s.last, s.target, s.lift, progress);
     match step {
         FeetStep::Moved(feet) => {
@@ -264,11 +232,10 @@ pub fn next_timed(s: TimedStepIterator, elapsed: Time) -> NextTimed
     }
 }
 
-// One step more by time, at even pace.
-pub fn next_even(s: EvenStepIterator, elapsed: Time) -> NextEven
-    ensures { λ r. ⌜ r ≡ nextEven s elapsed ⌝ }
+// The same at even pace.
+pub fn next_even(s: EvenStepIterator, progress: f32) -> NextEven
+    ensures { λ r. ⌜ r ≡ evenAt s progress ⌝ }
 {
-    let progress = even_progress(elapsed, s.period);
     let step = by_time(s.start, s.last, s.target, s.lift, progress);
     match step {
         FeetStep::Moved(feet) => {
@@ -291,7 +258,7 @@ pub fn course_finite(start: Feet, last: Feet, target: Feet) -> bool
 pub fn course_permitted(start: Feet, last: Feet, target: Feet) -> bool
     ensures { λ r. ⌜ r ≡ permittedCourse start last target ⌝ }
 {
-    let limit = numbers::limits::foot();
+    let limit = numbers::limits::foot_limit();
     legs::core::feet_permitted(limit, start)
         & legs::core::feet_permitted(limit, last)
         & legs::core::feet_permitted(limit, target)

@@ -8,8 +8,9 @@ use numbers::door;
 ghost use mathlib.Core.Path.{_≡_};
 ghost use Rattle.numbers.specs.Answers.{told};
 ghost use Rattle.steps.specs.Answers.{toldStepIter, toldNextStep, toldTimedIter, toldNextTimed, toldEvenIter, toldNextEven};
-ghost use Rattle.steps.specs.Refusals.{progressRefusal, stepRefusal, liftRefusal, atRefusal};
-ghost use Rattle.steps.specs.Entries.{timedProgressTold, evenProgressTold, stepIterTold, nextStepTold, timedIterTold, nextTimedTold, nextEvenTold};
+ghost use Rattle.steps.specs.Refusals.{progressRefusal, stepRefusal, liftRefusal};
+ghost use Rattle.steps.specs.Entries.{timedProgressTold, evenProgressTold, stepIterTold, nextStepTold};
+ghost use Rattle.steps.specs.Entries.{timedIterTold, nextTimedTold, nextEvenTold};
 
 pub mod core;
 
@@ -89,10 +90,7 @@ pub enum NextEven {
 pub fn progress_refused(elapsed: Time, period: Time) -> u32
     ensures { λ r. ⌜ r ≡ progressRefusal elapsed period ⌝ }
 {
-    door::unless(
-        commands::core::is_elapsed(elapsed) & commands::core::is_period(period),
-        3,
-    )
+    door::unless(core::is_timely(elapsed, period), 3)
 }
 
 // How far a timed step is: 0 at its start, 1 and more when it is done.
@@ -123,48 +121,37 @@ pub fn even_progress(elapsed: Time, period: Time) -> Answer
 pub fn step_refused(s: StepIterator) -> u32
     ensures { λ r. ⌜ r ≡ stepRefusal s ⌝ }
 {
-    let finite = core::course_finite(s.start, s.last, s.target)
-        & door::is_finite(s.max_move)
-        & door::is_finite(s.step_height);
     let permitted = core::course_permitted(s.start, s.last, s.target)
         & door::is_permitted(numbers::limits::max_move(), s.max_move)
         & door::is_permitted(numbers::limits::direction(), s.step_height);
-    door::either(door::unless(finite, 1), door::unless(permitted, 2))
+    if permitted {
+        0
+    } else {
+        door::outside(
+            core::course_finite(s.start, s.last, s.target)
+                & door::is_finite(s.max_move)
+                & door::is_finite(s.step_height),
+        )
+    }
 }
 
-// Why a step by time is refused: the lowest number that applies, or 0.
-pub fn lift_refused(start: Feet, last: Feet, target: Feet, lift: Lift, period: Time) -> u32
-    ensures { λ r. ⌜ r ≡ liftRefusal start last target lift period ⌝ }
+// Why a step by time is refused: the lowest number that applies, or 0. Whether its times are in the table is known already.
+pub fn lift_refused(start: Feet, last: Feet, target: Feet, lift: Lift, timely: bool) -> u32
+    ensures { λ r. ⌜ r ≡ liftRefusal start last target lift timely ⌝ }
 {
     let limit = numbers::limits::direction();
-    let finite = core::course_finite(start, last, target)
-        & door::is_finite(lift.step_height)
-        & door::is_finite(lift.grounded_leg_descent);
     let permitted = core::course_permitted(start, last, target)
         & door::is_permitted(limit, lift.step_height)
         & door::is_permitted(limit, lift.grounded_leg_descent);
-    door::first_of(
-        finite,
-        permitted,
-        door::unless(commands::core::is_period(period), 3),
-    )
-}
-
-// The same at an elapsed time.
-pub fn at_refused(
-    start: Feet,
-    last: Feet,
-    target: Feet,
-    lift: Lift,
-    period: Time,
-    elapsed: Time,
-) -> u32
-    ensures { λ r. ⌜ r ≡ atRefusal start last target lift period elapsed ⌝ }
-{
-    door::either(
-        lift_refused(start, last, target, lift, period),
-        door::unless(commands::core::is_elapsed(elapsed), 3),
-    )
+    if permitted {
+        door::unless(timely, 3)
+    } else {
+        door::outside(
+            core::course_finite(start, last, target)
+                & door::is_finite(lift.step_height)
+                & door::is_finite(lift.grounded_leg_descent),
+        )
+    }
 }
 
 impl StepIterator {
@@ -214,7 +201,8 @@ impl TimedStepIterator {
     pub fn step(start: Feet, target: Feet, period: Time, lift: Lift) -> TimedIter
         ensures { λ r. ⌜ toldTimedIter r ≡ timedIterTold start target period lift ⌝ }
     {
-        let n = lift_refused(start, start, target, lift, period);
+        let timely = commands::core::is_period(period);
+        let n = lift_refused(start, start, target, lift, timely);
         if n == 0 {
             TimedIter::State(TimedStepIterator {
                 start: start,
@@ -232,16 +220,10 @@ impl TimedStepIterator {
     pub fn next(self, elapsed: Time) -> NextTimed
         ensures { λ r. ⌜ toldNextTimed r ≡ nextTimedTold self elapsed ⌝ }
     {
-        let n = at_refused(
-            self.start,
-            self.last,
-            self.target,
-            self.lift,
-            self.period,
-            elapsed,
-        );
+        let timely = core::is_timely(elapsed, self.period);
+        let n = lift_refused(self.start, self.last, self.target, self.lift, timely);
         if n == 0 {
-            core::next_timed(self, elapsed)
+            core::next_timed(self, core::timed_progress(elapsed, self.period))
         } else {
             NextTimed::Refused(n)
         }
@@ -253,7 +235,8 @@ impl EvenStepIterator {
     pub fn step(start: Feet, target: Feet, period: Time, lift: Lift) -> EvenIter
         ensures { λ r. ⌜ toldEvenIter r ≡ timedIterTold start target period lift ⌝ }
     {
-        let n = lift_refused(start, start, target, lift, period);
+        let timely = commands::core::is_period(period);
+        let n = lift_refused(start, start, target, lift, timely);
         if n == 0 {
             EvenIter::State(EvenStepIterator {
                 start: start,
@@ -271,16 +254,10 @@ impl EvenStepIterator {
     pub fn next(self, elapsed: Time) -> NextEven
         ensures { λ r. ⌜ toldNextEven r ≡ nextEvenTold self elapsed ⌝ }
     {
-        let n = at_refused(
-            self.start,
-            self.last,
-            self.target,
-            self.lift,
-            self.period,
-            elapsed,
-        );
+        let timely = core::is_timely(elapsed, self.period);
+        let n = lift_refused(self.start, self.last, self.target, self.lift, timely);
         if n == 0 {
-            core::next_even(self, elapsed)
+            core::next_even(self, core::even_progress(elapsed, self.period))
         } else {
             NextEven::Refused(n)
         }

@@ -1,7 +1,8 @@
 -- Every f32 is a number of 24 digits times a power of two, in units; so from 2 ^ 23 * 2 ^ k units on it is a multiple of 2 ^ k.
 use mathlib.Core.Path.{_≡_, refl, sym, ap, _∙_}
 use Prim.Native.Nat.{ℕ, zero, suc, _+_, _-_, _*_, _/_, _%_, _^_, _≤_, _<_}
-use native.Mathlib.Nat.{le-of-eq, lt-of-lt-of-le, lt-of-le-of-lt, lt-of-not-le, not-le-of-lt, mul-assoc, mul-one, mul-div-cancel, div-one, zero-mul, zero-div, mul-lt-mul-of-pos-right, pow-succ'}
+use native.Mathlib.Nat.{le-of-eq, lt-of-lt-of-le, lt-of-le-of-lt, lt-of-not-le, not-le-of-lt, mul-assoc, mul-one, mul-div-cancel, div-one}
+use native.Mathlib.Nat.{zero-mul, zero-div, mul-lt-mul-of-pos-right, pow-succ'}
 use native.Mathlib.Omega.{arith}
 use mathlib.Core.Bool.{Bool, true, _&&_}
 use lib.IntN.{ℤ, pos, negsuc}
@@ -30,7 +31,13 @@ sign-free s m e t = t
 
 by-exponent : (s : Bool) (m : ℕ) (e : ℤ) → suc m < 2 ^ 24 → down e ≤ unity → Digits (mag (fin s (suc m) e))
 unfolding mag
-by-exponent s m (pos t) h k = (suc m, t + 149, div-one (suc m * 2 ^ t * unity) ∙ mul-assoc (suc m) (2 ^ t) (unity) ∙ ap (λ (y : ℕ). suc m * y) (sym (pow-add 2 t 149)), h)
+by-exponent s m (pos t) h k = (
+  suc m,
+  t + 149,
+  div-one (suc m * 2 ^ t * unity) ∙ mul-assoc (suc m) (2 ^ t) (unity)
+      ∙ ap (λ (y : ℕ). suc m * y) (sym (pow-add 2 t 149)),
+  h,
+)
 by-exponent s m (negsuc t) h k =
     let l : suc t ≤ 149 = pow-le-back (suc t) k in
     let e : 149 - suc t + suc t ≡ 149 = omega arith in (
@@ -65,8 +72,11 @@ multiple w k d h =
     let j = d .1 in
     let less : w < 2 ^ 24 * 2 ^ j = lt-of-le-of-lt (le-of-eq (d .2)) (mul-lt-mul-of-pos-right (d .3) (pow-pos j)) in
     let l : k ≤ j = le-of-lt-suc (lt-of-not-le (λ (g : suc j ≤ k). not-le-of-lt (lt-of-lt-of-le less (up-one k j g)) h)) in
-    let e : j - k + k ≡ j = omega arith in
-    (m * 2 ^ (j - k), d .2 ∙ ap (λ (y : ℕ). m * 2 ^ y) (sym e) ∙ ap (λ (y : ℕ). m * y) (pow-add 2 (j - k) k) ∙ sym (mul-assoc m (2 ^ (j - k)) (2 ^ k)))
+    let e : j - k + k ≡ j = omega arith in (
+      m * 2 ^ (j - k),
+      d .2 ∙ ap (λ (y : ℕ). m * 2 ^ y) (sym e) ∙ ap (λ (y : ℕ). m * y) (pow-add 2 (j - k) k)
+          ∙ sym (mul-assoc m (2 ^ (j - k)) (2 ^ k)),
+    )
   where
     le-of-lt-suc : {a b : ℕ} → a < suc b → a ≤ b
     le-of-lt-suc {a} {b} x = omega arith

@@ -1,5 +1,7 @@
--- How far f32 rounds, in numbers that `omega` takes: sums, products and quotients of a known size, with the error a power of two; and any, within one part in 1024.
--- `omega` refuses numerals of 40 digits and more, and 1 is 2 ^ 149 units, so each law is first proved with a variable u for it, and then taken at it.
+-- How far f32 rounds, in numbers that `omega` takes: sums, products and quotients of a known size, with the error a power of two; and
+-- any, within one part in 1024.
+-- `omega` refuses numerals of 40 digits and more, and 1 is 2 ^ 149 units, so each law is first proved with a variable u for it, and then
+-- taken at it.
 use mathlib.Core.Path.{_≡_, ap, _∙_}
 use Prim.Native.Nat.{ℕ, _+_, _*_, _^_, _≤_, _<_}
 use native.Mathlib.Nat.{le-of-eq, lt-of-lt-of-le, mul-le-mul-right, mul-lt-mul-of-pos-right, le-of-mul-le-mul-right, mul-pos}
@@ -45,7 +47,10 @@ sum-low : (g x u : ℕ) → 0 < u → 1023 * (x * u) ≤ 1024 * (g * u) + 512 * 
 sum-low g x u h a = le-of-mul-le-mul-right {m = 1023 * x} {n = 1024 * g + 512} {k = u} (omega arith) h
 
 pub summed : (x : ℕ) → Summed (rounded x unity) x
-summed x = record { up = sum-up (rounded x unity) x unity (pow-pos 149) (rel-up (x * unity) unity (pow-pos 149)); low = sum-low (rounded x unity) x unity (pow-pos 149) (rel-low (x * unity) unity (pow-pos 149)) }
+summed x = record {
+  up = sum-up (rounded x unity) x unity (pow-pos 149) (rel-up (x * unity) unity (pow-pos 149));
+  low = sum-low (rounded x unity) x unity (pow-pos 149) (rel-low (x * unity) unity (pow-pos 149));
+}
 
 -- a product of x and y units; xy stands for x * y
 pub record Multiplied (g xy u : ℕ) : Type 0 where
@@ -61,7 +66,10 @@ mul-low g w u h a = le-of-mul-le-mul-right {m = 1023 * w} {n = 1024 * (g * u) + 
 pub multiplied : (w : ℕ) → Multiplied (rounded w (unity * unity)) w unity
 multiplied w =
     let C : 0 < unity * unity = mul-pos (pow-pos 149) (pow-pos 149) in
-    record { up = mul-up (rounded w (unity * unity)) w unity (pow-pos 149) (rel-up (w * unity) (unity * unity) C); low = mul-low (rounded w (unity * unity)) w unity (pow-pos 149) (rel-low (w * unity) (unity * unity) C) }
+    record {
+      up = mul-up (rounded w (unity * unity)) w unity (pow-pos 149) (rel-up (w * unity) (unity * unity) C);
+      low = mul-low (rounded w (unity * unity)) w unity (pow-pos 149) (rel-low (w * unity) (unity * unity) C);
+    }
 
 -- ---- absolute
 pub record Within (g x e : ℕ) : Type 0 where
@@ -70,7 +78,10 @@ pub record Within (g x e : ℕ) : Type 0 where
 
 -- 2 ^ j is 2 * e
 sum-within : (g x u e : ℕ) → 0 < u → 2 * (g * u) ≤ 2 * (x * u) + u * (2 * e) → 2 * (x * u) ≤ 2 * (g * u) + u * (2 * e) → Within g x e
-sum-within g x u e h a b = record { up = le-of-mul-le-mul-right {m = g} {n = x + e} {k = u} (omega arith) h; low = le-of-mul-le-mul-right {m = x} {n = g + e} {k = u} (omega arith) h }
+sum-within g x u e h a b = record {
+  up = le-of-mul-le-mul-right {m = g} {n = x + e} {k = u} (omega arith) h;
+  low = le-of-mul-le-mul-right {m = x} {n = g + e} {k = u} (omega arith) h;
+}
 
 -- a sum below 32: within 2 ^ -20
 pub sum-abs : (x : ℕ) → x < 2 ^ 154 → Within (rounded x unity) x (2 ^ 129)
@@ -82,7 +93,8 @@ pub sum-le : (x : ℕ) → x < 2 ^ 154 → rounded x unity ≤ 2 ^ 154
 sum-le x h = cell-le 24 (x * unity) unity 130 (pow-pos 149) (mul-lt-mul-of-pos-right h (pow-pos 149))
 
 -- a quotient x / q below 2: within 2 ^ -24, as a multiple of q
-div-within : (g x q u e : ℕ) → 2 * (g * q) ≤ 2 * (x * u) + q * (2 * e) → 2 * (x * u) ≤ 2 * (g * q) + q * (2 * e) → Within (g * q) (x * u) (q * e)
+div-within : (g x q u e : ℕ) → 2 * (g * q) ≤ 2 * (x * u) + q * (2 * e) → 2 * (x * u) ≤ 2 * (g * q) + q * (2 * e)
+    → Within (g * q) (x * u) (q * e)
 div-within g x q u e a b = record { up = omega arith; low = omega arith }
 
 pub div-abs : (x q : ℕ) → 0 < q → x < 2 * q → Within (rounded x q * q) (x * unity) (q * 2 ^ 125)
@@ -100,8 +112,12 @@ div-le x q Q h = cell-le 24 (x * unity) q 126 Q (lt-of-lt-of-le (mul-lt-mul-of-p
     shuffle q u = omega arith
 
 -- a product w of two below 4, w in units of 2 ^ -298: within 2 ^ -23
-mul-within : (g w u e : ℕ) → 0 < u → 2 * (g * (u * u)) ≤ 2 * (w * u) + u * u * (2 * e) → 2 * (w * u) ≤ 2 * (g * (u * u)) + u * u * (2 * e) → Within (g * u) w (u * e)
-mul-within g w u e h a b = record { up = le-of-mul-le-mul-right {m = g * u} {n = w + u * e} {k = u} (omega arith) h; low = le-of-mul-le-mul-right {m = w} {n = g * u + u * e} {k = u} (omega arith) h }
+mul-within : (g w u e : ℕ) → 0 < u → 2 * (g * (u * u)) ≤ 2 * (w * u) + u * u * (2 * e) → 2 * (w * u) ≤ 2 * (g * (u * u)) + u * u * (2 * e)
+    → Within (g * u) w (u * e)
+mul-within g w u e h a b = record {
+  up = le-of-mul-le-mul-right {m = g * u} {n = w + u * e} {k = u} (omega arith) h;
+  low = le-of-mul-le-mul-right {m = w} {n = g * u + u * e} {k = u} (omega arith) h;
+}
 
 pub mul-abs : (w : ℕ) → w < 4 * (unity * unity) → Within (rounded w (unity * unity) * unity) w (unity * 2 ^ 126)
 mul-abs w h =

@@ -1,9 +1,12 @@
--- What `round` makes of a / c, in units, is `grid f a c`: its error, absolute and relative, its order, and its bound by powers of two, for either format.
+-- What `round` makes of a / c, in units, is `grid f a c`: its error, absolute and relative, its order, and its bound by powers of two,
+-- for either format.
 -- Every fact is linear in the three products grid * c, a * one and c, so that `omega` takes it as it stands.
 use mathlib.Core.Path.{_≡_, refl, sym, ap, _∙_, subst}
 use mathlib.Core.Logic.{_⊎_, inl, inr}
 use Prim.Native.Nat.{ℕ, zero, suc, _+_, _-_, _*_, _/_, _%_, _^_, _≤_, _<_, zero-le, compare}
-use native.Mathlib.Nat.{le-antisymm, mul-right-comm, lt-of-le-of-lt, eq-or-lt-of-le, div-div-eq-div-mul, le-trans, le-of-eq, mul-comm, mul-assoc, mul-left-comm, mul-le-mul-left, mul-le-mul-right, mul-pos, le-div-iff-mul-le, div-lt-iff-lt-mul, eq-zero-or-pos, mul-one, zero-mul}
+use native.Mathlib.Nat.{le-antisymm, mul-right-comm, lt-of-le-of-lt, eq-or-lt-of-le, div-div-eq-div-mul, le-trans, le-of-eq, mul-comm}
+use native.Mathlib.Nat.{mul-assoc, mul-left-comm, mul-le-mul-left, mul-le-mul-right, mul-pos, le-div-iff-mul-le, div-lt-iff-lt-mul}
+use native.Mathlib.Nat.{eq-zero-or-pos, mul-one, zero-mul}
 use native.Mathlib.Omega.{arith}
 use lib.Pow.{pow-add, pow-pos, pow-mono}
 use lib.Ieee.{Format, prec, low, size, hid}
@@ -21,7 +24,8 @@ abbrev pub cell : ℕ → ℕ → ℕ → ℕ
 cell p n c = kept p n c * 2 ^ drop p n c
 
 -- the error is at most half of 2 ^ drop units
-pub cell-near : (p n c : ℕ) → 0 < c → (2 * (cell p n c * c) ≤ 2 * n + c * 2 ^ drop p n c) × (2 * n ≤ 2 * (cell p n c * c) + c * 2 ^ drop p n c)
+pub cell-near : (p n c : ℕ) → 0 < c
+    → (2 * (cell p n c * c) ≤ 2 * n + c * 2 ^ drop p n c) × (2 * n ≤ 2 * (cell p n c * c) + c * 2 ^ drop p n c)
 cell-near p n c C =
     let k = drop p n c in
     let h = closest-near n (c * 2 ^ k) (mul-pos C (pow-pos k)) in
@@ -35,7 +39,8 @@ few z p j h = omega arith
 pub drop-le : (p n c j : ℕ) → 0 < c → n < 2 ^ (p + j) * c → drop p n c ≤ j
 drop-le p n c j C h = few (size (n / c)) p j (size-le (n / c) (p + j) (div-lt-iff-lt-mul C .1 h))
 
-pub cell-abs : (p n c j : ℕ) → 0 < c → n < 2 ^ (p + j) * c → (2 * (cell p n c * c) ≤ 2 * n + c * 2 ^ j) × (2 * n ≤ 2 * (cell p n c * c) + c * 2 ^ j)
+pub cell-abs : (p n c j : ℕ) → 0 < c → n < 2 ^ (p + j) * c
+    → (2 * (cell p n c * c) ≤ 2 * n + c * 2 ^ j) × (2 * n ≤ 2 * (cell p n c * c) + c * 2 ^ j)
 cell-abs p n c j C h =
     let g = cell-near p n c C in
     let m : c * 2 ^ drop p n c ≤ c * 2 ^ j = mul-le-mul-left c (pow-mono (drop-le p n c j C h)) in
@@ -54,7 +59,9 @@ drop-rel p n c P C = go (drop p n c) refl (eq-zero-or-pos (drop p n c))
         let v : 2 ^ (p - 1) * (c * 2 ^ k) ≡ 2 ^ (p - 1) * c = ap (λ (x : ℕ). 2 ^ (p - 1) * x) w in
         omega arith
     go k e (inr K) =
-        let l : 2 ^ (p - 1 + k) ≤ n / c = size-reaches (n / c) (p - 1 + k) (subst (λ (x : ℕ). p - 1 + x < size (n / c)) e (used (size (n / c)) p P (subst (λ (x : ℕ). 0 < x) (sym e) K))) in
+        let l : 2 ^ (p - 1 + k) ≤ n / c =
+        size-reaches (n / c) (p - 1 + k)
+        (subst (λ (x : ℕ). p - 1 + x < size (n / c)) e (used (size (n / c)) p P (subst (λ (x : ℕ). 0 < x) (sym e) K))) in
         let m : 2 ^ (p - 1 + k) * c ≤ n = le-div-iff-mul-le C .0 l in
         let q : 2 ^ (p - 1) * (c * 2 ^ k) ≡ 2 ^ (p - 1 + k) * c = simp (pow-add, mul-assoc, mul-comm, mul-left-comm) in
         omega arith
@@ -73,7 +80,8 @@ kept-le : (p n den : ℕ) → kept p n den ≤ 2 ^ p
 kept-le p n den =
     let k = drop p n den in
     let u = den * 2 ^ k in
-    le-trans (nearest-le (n / u) (compare (n % u * 2) u)) (subst (λ (x : ℕ). x < 2 ^ p) (div-div-eq-div-mul n den (2 ^ k)) (kept-lt p (n / den)))
+    le-trans (nearest-le (n / u) (compare (n % u * 2) u))
+    (subst (λ (x : ℕ). x < 2 ^ p) (div-div-eq-div-mul n den (2 ^ k)) (kept-lt p (n / den)))
 
 pub kept-ge : (p n den : ℕ) → 0 < p → 0 < drop p n den → 2 ^ (p - 1) ≤ kept p n den
 kept-ge p n den P K =
@@ -81,7 +89,8 @@ kept-ge p n den P K =
     let u = den * 2 ^ k in
     let w = n / den in
     let a : 2 ^ (p - 1) * 2 ^ k ≤ w = le-trans (le-of-eq (sym (pow-add 2 (p - 1) k))) (size-reaches w (p - 1 + k) (used (size w) p P K)) in
-    le-trans (subst (λ (x : ℕ). 2 ^ (p - 1) ≤ x) (div-div-eq-div-mul n den (2 ^ k)) (le-div-iff-mul-le (pow-pos k) .1 a)) (nearest-ge (n / u) (compare (n % u * 2) u))
+    le-trans (subst (λ (x : ℕ). 2 ^ (p - 1) ≤ x) (div-div-eq-div-mul n den (2 ^ k)) (le-div-iff-mul-le (pow-pos k) .1 a))
+    (nearest-ge (n / u) (compare (n % u * 2) u))
 
 fewer : (x y p : ℕ) → x ≤ y → x - p ≤ y - p
 fewer x y p h = omega arith
@@ -104,7 +113,9 @@ cell-mono p a b c d P B D h =
 
 -- n / c below 2 ^ (p + j): the result is no more
 pub cell-le : (p n c j : ℕ) → 0 < c → n < 2 ^ (p + j) * c → cell p n c ≤ 2 ^ (p + j)
-cell-le p n c j C h = le-trans (mul-le-mul-right (2 ^ drop p n c) (kept-le p n c)) (le-trans (le-of-eq (sym (pow-add 2 p (drop p n c)))) (pow-mono (grows p (drop p n c) j (drop-le p n c j C h))))
+cell-le p n c j C h =
+    le-trans (mul-le-mul-right (2 ^ drop p n c) (kept-le p n c))
+    (le-trans (le-of-eq (sym (pow-add 2 p (drop p n c)))) (pow-mono (grows p (drop p n c) j (drop-le p n c j C h))))
   where
     grows : (p x j : ℕ) → x ≤ j → p + x ≤ p + j
     grows p x j h = omega arith
@@ -116,7 +127,8 @@ digits f = two-le-pos (prec f) (two f)
 pub grid-mono : (f : Format) (a b c d : ℕ) → 0 < b → 0 < d → a * d ≤ c * b → grid f a b ≤ grid f c d
 grid-mono f a b c d B D h =
     let l = 2 ^ low f in
-    let x : a * l * d ≤ c * l * b = le-trans (le-of-eq (mul-right-comm a l d)) (le-trans (mul-le-mul-right l h) (le-of-eq (mul-right-comm c b l))) in
+    let x : a * l * d ≤ c * l * b =
+    le-trans (le-of-eq (mul-right-comm a l d)) (le-trans (mul-le-mul-right l h) (le-of-eq (mul-right-comm c b l))) in
     cell-mono (prec f) (a * l) b (c * l) d (digits f) B D x
 
 pub grid-same : (f : Format) (a b c d : ℕ) → 0 < b → 0 < d → a * d ≡ c * b → grid f a b ≡ grid f c d
@@ -128,7 +140,8 @@ zero-of (suc g) c C h = absurd (omega arith)
 
 pub grid-zero : (f : Format) (c : ℕ) → 0 < c → grid f 0 c ≡ 0
 grid-zero f c C =
-    let k : 0 * 2 ^ low f < 2 ^ (prec f + 0) * c = subst (λ (x : ℕ). x < 2 ^ (prec f + 0) * c) (sym (zero-mul (2 ^ low f))) (mul-pos (pow-pos (prec f + 0)) C) in
+    let k : 0 * 2 ^ low f < 2 ^ (prec f + 0) * c =
+    subst (λ (x : ℕ). x < 2 ^ (prec f + 0) * c) (sym (zero-mul (2 ^ low f))) (mul-pos (pow-pos (prec f + 0)) C) in
     let h = cell-abs (prec f) (0 * 2 ^ low f) c 0 C k .0 in
     let z : 0 * 2 ^ low f ≡ 0 = zero-mul (2 ^ low f) in
     zero-of (grid f 0 c) c C (omega arith)
@@ -148,7 +161,8 @@ below-rel : (g n c k w : ℕ) → 2 * n ≤ 2 * g + k → w * k ≤ n + w * c �
 below-rel g n c k w a b = let d : w * (2 * n) ≤ w * (2 * g + k) = mul-le-mul-left w a in omega arith
 
 pub grid-rel : (f : Format) (a c : ℕ) → 0 < c
-    → (2 * hid f * (grid f a c * c) ≤ (2 * hid f + 1) * (a * one f) + hid f * c) × (2 * hid f * (a * one f) ≤ 2 * hid f * (grid f a c * c) + a * one f + hid f * c)
+    → (2 * hid f * (grid f a c * c) ≤ (2 * hid f + 1) * (a * one f) + hid f * c)
+    × (2 * hid f * (a * one f) ≤ 2 * hid f * (grid f a c * c) + a * one f + hid f * c)
 grid-rel f a c C =
     let n = a * one f in
     let h = cell-near (prec f) n c C in

@@ -10,6 +10,8 @@ pub mod Order
 pub mod Errors
 pub mod Bounds
 pub mod Patterns
+pub mod PatternOrder
+pub mod Bits
 pub mod Above
 pub mod Digits
 pub mod Nearest

@@ -1,5 +1,6 @@
--- How far each operation rounds, for either format. Where the exact result is the fraction i / v of units, times 2 ^ prec the error is at most the result and half a unit.
--- And where the exact result is below 2 ^ (prec + j) units, the error is at most half of 2 ^ j units.
+-- How far each operation rounds, for either format, where nothing overflows. Where the exact result is the fraction i / v of units, the
+-- error is at most that result over 2 ^ prec and half a unit; where it is below 2 ^ (prec + j) units, the error is at most half of
+-- 2 ^ j units.
 use mathlib.Core.Path.{_≡_, sym, subst}
 use mathlib.Core.Logic.{inl, inr}
 use Prim.Native.Nat.{ℕ, _+_, _-_, _*_, _^_, _≤_, _<_}
@@ -10,13 +11,14 @@ use lib.Pow.{pow-pos}
 use lib.Ieee.{Float, Format, prec, low, hid, add, sub, mul, div}
 use lib.Ieee.Exact.{HasValue}
 use lib.Ieee.Scale.{grid, overflow}
-use Rattle.units.specs.Units.{one, Part, gap, turned}
+use Rattle.units.specs.Units.{one, Part, gap}
 use Rattle.units.proofs.Whole.{total}
 use Rattle.units.proofs.Grid.{grid-abs, grid-rel}
 use Rattle.units.proofs.Add.{add-part, sub-part}
-use Rattle.units.proofs.Multiply.{mul-part, div-part}
+use Rattle.units.proofs.Multiply.{swapped, mul-part, div-part}
 
--- g units are near to the fraction a / v, in numbers: a * one f / v units
+-- g units are near to the fraction a / v, in numbers: a * one f / v units; hid f is 2 ^ (prec - 1), and both sides are times 2 ^ prec
+-- and v
 abbrev pub Near : Format → ℕ → ℕ → ℕ → Type 0
 Near f g a v = 2 * hid f * gap (g * v) (a * one f) ≤ a * one f + hid f * v
 
@@ -65,10 +67,12 @@ module _ (f : Format) (x y : Float) (p n q r : ℕ) (a : Part f x p n) (b : Part
 
 -- y is ±q units
 module _ (f : Format) (x y : Float) (t : Bool) (p n q : ℕ) (a : Part f x p n) (b : HasValue y t q (one f)) where
-  pub mul-near : grid f (turned t p n * q) (one f * one f) < overflow f → grid f (turned t n p * q) (one f * one f) < overflow f
-      → Rounding f (mul f x y) (turned t p n * q) (turned t n p * q) (one f * one f)
-  mul-near h g = rounding f (mul f x y) (turned t p n * q) (turned t n p * q) (one f * one f) (mul-pos (pow-pos (low f)) (pow-pos (low f))) (mul-part f x y t p n q a b h g)
+  pub mul-near : grid f (swapped t p n * q) (one f * one f) < overflow f → grid f (swapped t n p * q) (one f * one f) < overflow f
+      → Rounding f (mul f x y) (swapped t p n * q) (swapped t n p * q) (one f * one f)
+  mul-near h g =
+      rounding f (mul f x y) (swapped t p n * q) (swapped t n p * q) (one f * one f) (mul-pos (pow-pos (low f)) (pow-pos (low f)))
+      (mul-part f x y t p n q a b h g)
 
-  pub div-near : 0 < q → grid f (turned t p n) q < overflow f → grid f (turned t n p) q < overflow f
-      → Rounding f (div f x y) (turned t p n) (turned t n p) q
-  div-near Q h g = rounding f (div f x y) (turned t p n) (turned t n p) q Q (div-part f x y t p n q a b Q h g)
+  pub div-near : 0 < q → grid f (swapped t p n) q < overflow f → grid f (swapped t n p) q < overflow f
+      → Rounding f (div f x y) (swapped t p n) (swapped t n p) q
+  div-near Q h g = rounding f (div f x y) (swapped t p n) (swapped t n p) q Q (div-part f x y t p n q a b Q h g)

@@ -2,7 +2,8 @@
 use mathlib.Core.Path.{_≡_, sym, ap, _∙_}
 use mathlib.Core.Logic.{inl, inr}
 use Prim.Native.Nat.{ℕ, suc, _+_, _*_, _/_, _^_, _≤_, _<_}
-use native.Mathlib.Nat.{le-trans, le-of-eq, le-of-lt, lt-of-lt-of-le, lt-of-le-of-lt, lt-of-mul-lt-mul-right, mul-le-mul-right, le-div-iff-mul-le, eq-zero-or-pos}
+use native.Mathlib.Nat.{le-trans, le-of-eq, le-of-lt, lt-of-lt-of-le, lt-of-le-of-lt, lt-of-mul-lt-mul-right, mul-le-mul-right}
+use native.Mathlib.Nat.{le-div-iff-mul-le, eq-zero-or-pos}
 use native.Mathlib.Omega.{arith}
 use lib.Dec.{lit<}
 use lib.Pow.{pow-add}
@@ -48,8 +49,10 @@ module _ (n c w : ℕ) (C : 0 < c) (d : Digits w) where
         let M = multiple w k d h in
         let K = kept 24 n c in
         let u = M .0 in
-        let x : u < suc K = lt-of-mul-lt-mul-right (2 ^ k) (lt-of-le-of-lt (le-of-eq (sym (M .1))) (lt-of-lt-of-le above (le-of-eq (next K (2 ^ k))))) in
-        let y : K < suc u = lt-of-mul-lt-mul-right (2 ^ k) (lt-of-lt-of-le below (le-of-eq (ap (λ (z : ℕ). z + 2 ^ k) (M .1) ∙ next u (2 ^ k)))) in
+        let x : u < suc K =
+        lt-of-mul-lt-mul-right (2 ^ k) (lt-of-le-of-lt (le-of-eq (sym (M .1))) (lt-of-lt-of-le above (le-of-eq (next K (2 ^ k))))) in
+        let y : K < suc u =
+        lt-of-mul-lt-mul-right (2 ^ k) (lt-of-lt-of-le below (le-of-eq (ap (λ (z : ℕ). z + 2 ^ k) (M .1) ∙ next u (2 ^ k)))) in
         same (M .1 ∙ ap (λ (z : ℕ). z * 2 ^ k) (equal u K x y))
     | inr h ↦ elim (eq-zero-or-pos k) [
       | inl z ↦ same (equal w g (one-step above (ap (λ (j : ℕ). 2 ^ j) z)) (one-step below (ap (λ (j : ℕ). 2 ^ j) z)))
@@ -57,11 +60,13 @@ module _ (n c w : ℕ) (C : 0 < c) (d : Digits w) where
           let K = kept 24 n c in
           let b = 2 ^ 23 * 2 ^ k in
           let l : 2 ^ 23 ≤ K = kept-ge 24 n c (lit< tt) p in
-          let t : K < suc (2 ^ 23) = lt-of-mul-lt-mul-right (2 ^ k) (lt-of-lt-of-le below (le-trans (less w b (2 ^ k) h) (le-of-eq (next (2 ^ 23) (2 ^ k))))) in
+          let t : K < suc (2 ^ 23) =
+          lt-of-mul-lt-mul-right (2 ^ k) (lt-of-lt-of-le below (le-trans (less w b (2 ^ k) h) (le-of-eq (next (2 ^ 23) (2 ^ k))))) in
           let e : g ≡ b = ap (λ (z : ℕ). z * 2 ^ k) (at-bottom K l t) in
           let r : 2 ^ (23 + k) ≤ n / c = size-reaches (n / c) (23 + k) (used (size (n / c)) 24 (lit< tt) p) in
           let m : b * c ≤ n = le-div-iff-mul-le C .0 (le-trans (le-of-eq (sym (pow-add 2 23 k))) r) in
-          under (g * c) n (w * c) (le-trans (le-of-eq (ap (λ (z : ℕ). z * c) e)) m) (mul-le-mul-right c (le-trans (le-of-lt h) (le-of-eq (sym e))))
+          under (g * c) n (w * c) (le-trans (le-of-eq (ap (λ (z : ℕ). z * c) e)) m)
+          (mul-le-mul-right c (le-trans (le-of-lt h) (le-of-eq (sym e))))
     ]
   ]
     where

@@ -1,9 +1,11 @@
--- The order and the equality of two finite floats are those of their parts: where x is p - n and y is q - r units, x < y says p + r < n + q, x <= y says
+-- The order and the equality of two finite floats are those of their parts: where x is p - n and y is q - r units, x < y says p + r < n +
+-- q, x <= y says
 -- p + r ≤ n + q, and x == y says p + r ≡ n + q.
 use mathlib.Core.Path.{_≡_, refl, sym, ap, _∙_, subst}
 use mathlib.Core.Logic.{_⊎_, inl, inr}
 use Prim.Native.Nat.{ℕ, _+_, _*_, _≤_, _<_}
-use native.Mathlib.Nat.{le-of-lt, le-of-eq, lt-of-not-le, eq-or-lt-of-le, mul-comm, mul-pos, mul-lt-mul-of-pos-right, lt-of-mul-lt-mul-right, eq-of-mul-eq-mul-right}
+use native.Mathlib.Nat.{le-of-lt, le-of-eq, lt-of-not-le, eq-or-lt-of-le, mul-comm, mul-pos, mul-lt-mul-of-pos-right}
+use native.Mathlib.Nat.{lt-of-mul-lt-mul-right, eq-of-mul-eq-mul-right}
 use native.Mathlib.Omega.{arith}
 use mathlib.Core.Bool.{Bool, true, false, not, _&&_, _||_}
 use lib.IntN.{ℤ}
@@ -12,9 +14,9 @@ use lib.Pow.{pow-pos}
 use lib.Ieee.{Float, nan, inf, fin, Format, low, up, down, lt, eq, le, below, level, binary32}
 use lib.Ieee.Fits.{down-pos, and-i, and-l, and-r, eq→eqb}
 use lib.Ieee.Exact.{HasValue}
-use Rattle.units.specs.Units.{one, Part, hi, lo, Units, gap, apart, plusOf, minusOf}
+use Rattle.units.specs.Units.{one, Part, hi, lo, Units, gap, apart}
 use Rattle.units.proofs.Values.{plus-part}
-use Rattle.units.proofs.Add.{pos-wide, neg-wide, over-add}
+use Rattle.units.proofs.Add.{plusOf, minusOf, pos-wide, neg-wide, over-add}
 
 -- ±a < ±b
 below→ : (s : Bool) (a : ℕ) (t : Bool) (b : ℕ) → T (below s a t b) → plusOf s a + minusOf t b < minusOf s a + plusOf t b
@@ -36,8 +38,10 @@ below← true a true b h = lt→ltb b a (omega arith)
 level→ : (s : Bool) (a : ℕ) (t : Bool) (b : ℕ) → T (level s a t b) → plusOf s a + minusOf t b ≡ minusOf s a + plusOf t b
 level→ false a false b h = let z = eqb→eq a b (and-l (eqb a b) true h) in omega arith
 level→ true a true b h = let z = eqb→eq a b (and-l (eqb a b) true h) in omega arith
-level→ false a true b h = let z = eqb→eq a b (and-l (eqb a b) (eqb a 0) h) in let y = eqb→eq a 0 (and-r (eqb a b) (eqb a 0) h) in omega arith
-level→ true a false b h = let z = eqb→eq a b (and-l (eqb a b) (eqb a 0) h) in let y = eqb→eq a 0 (and-r (eqb a b) (eqb a 0) h) in omega arith
+level→ false a true b h = let z = eqb→eq a b (and-l (eqb a b) (eqb a 0) h) in let y = eqb→eq a 0 (and-r (eqb a b) (eqb a 0) h) in
+    omega arith
+level→ true a false b h = let z = eqb→eq a b (and-l (eqb a b) (eqb a 0) h) in let y = eqb→eq a 0 (and-r (eqb a b) (eqb a 0) h) in
+    omega arith
 
 both-i : (a b c d : ℕ) → a ≡ b → c ≡ d → T (eqb a b && eqb c d)
 both-i a b c d p q = and-i (eqb a b) (eqb c d) (eq→eqb p) (eq→eqb q)
@@ -48,24 +52,35 @@ level← true a true b h = and-i (eqb a b) true (eq→eqb {a = a} {b = b} (omega
 level← false a true b h = both-i a b a 0 (omega arith) (omega arith)
 level← true a false b h = both-i a b a 0 (omega arith) (omega arith)
 
-module _ (f : Format) (s : Bool) (m : ℕ) (e : ℤ) (t : Bool) (k : ℕ) (d : ℤ) (p n q r : ℕ) (x : Part f (fin s m e) p n) (y : Part f (fin t k d) q r) where
+module _ (f : Format) (s : Bool) (m : ℕ) (e : ℤ) (t : Bool) (k : ℕ) (d : ℤ) (p n q r : ℕ) (x : Part f (fin s m e) p n)
+    (y : Part f (fin t k d) q r) where
   left : (plusOf s (m * up e * down d) + minusOf t (k * up d * down e)) * one f ≡ (p + r) * (down e * down d)
-  left = over-add (plusOf s (m * up e * down d)) (minusOf t (k * up d * down e)) p r (down e * down d) (one f) (pos-wide f s m e p n (down d) x) (neg-wide f t k d q r (down e) y ∙ ap (λ (w : ℕ). r * w) (mul-comm (down d) (down e)))
+  left =
+      over-add (plusOf s (m * up e * down d)) (minusOf t (k * up d * down e)) p r (down e * down d) (one f)
+      (pos-wide f s m e p n (down d) x) (neg-wide f t k d q r (down e) y ∙ ap (λ (w : ℕ). r * w) (mul-comm (down d) (down e)))
 
   right : (minusOf s (m * up e * down d) + plusOf t (k * up d * down e)) * one f ≡ (n + q) * (down e * down d)
-  right = over-add (minusOf s (m * up e * down d)) (plusOf t (k * up d * down e)) n q (down e * down d) (one f) (neg-wide f s m e p n (down d) x) (pos-wide f t k d q r (down e) y ∙ ap (λ (w : ℕ). q * w) (mul-comm (down d) (down e)))
+  right =
+      over-add (minusOf s (m * up e * down d)) (plusOf t (k * up d * down e)) n q (down e * down d) (one f)
+      (neg-wide f s m e p n (down d) x) (pos-wide f t k d q r (down e) y ∙ ap (λ (w : ℕ). q * w) (mul-comm (down d) (down e)))
 
   fin-lt→ : T (lt (fin s m e) (fin t k d)) → p + r < n + q
   unfolding lt
   fin-lt→ h =
       let z = below→ s (m * up e * down d) t (k * up d * down e) h in
-      lt-of-mul-lt-mul-right (down e * down d) (subst (λ (w : ℕ). w < (n + q) * (down e * down d)) left (subst (λ (w : ℕ). (plusOf s (m * up e * down d) + minusOf t (k * up d * down e)) * one f < w) right (mul-lt-mul-of-pos-right z (pow-pos (low f)))))
+      lt-of-mul-lt-mul-right (down e * down d)
+      (subst (λ (w : ℕ). w < (n + q) * (down e * down d)) left
+      (subst (λ (w : ℕ). (plusOf s (m * up e * down d) + minusOf t (k * up d * down e)) * one f < w) right
+      (mul-lt-mul-of-pos-right z (pow-pos (low f)))))
 
   fin-lt← : p + r < n + q → T (lt (fin s m e) (fin t k d))
   unfolding lt
   fin-lt← h =
       below← s (m * up e * down d) t (k * up d * down e)
-      (lt-of-mul-lt-mul-right (one f) (subst (λ (w : ℕ). w < (minusOf s (m * up e * down d) + plusOf t (k * up d * down e)) * one f) (sym left) (subst (λ (w : ℕ). (p + r) * (down e * down d) < w) (sym right) (mul-lt-mul-of-pos-right h (mul-pos (down-pos e) (down-pos d))))))
+      (lt-of-mul-lt-mul-right (one f)
+      (subst (λ (w : ℕ). w < (minusOf s (m * up e * down d) + plusOf t (k * up d * down e)) * one f) (sym left)
+      (subst (λ (w : ℕ). (p + r) * (down e * down d) < w) (sym right)
+      (mul-lt-mul-of-pos-right h (mul-pos (down-pos e) (down-pos d))))))
 
   fin-eq→ : T (eq (fin s m e) (fin t k d)) → p + r ≡ n + q
   unfolding eq
@@ -77,7 +92,8 @@ module _ (f : Format) (s : Bool) (m : ℕ) (e : ℤ) (t : Bool) (k : ℕ) (d : �
   unfolding eq
   fin-eq← h =
       level← s (m * up e * down d) t (k * up d * down e)
-      (eq-of-mul-eq-mul-right (one f) (pow-pos (low f)) (plusOf s (m * up e * down d) + minusOf t (k * up d * down e)) (minusOf s (m * up e * down d) + plusOf t (k * up d * down e))
+      (eq-of-mul-eq-mul-right (one f) (pow-pos (low f)) (plusOf s (m * up e * down d) + minusOf t (k * up d * down e))
+      (minusOf s (m * up e * down d) + plusOf t (k * up d * down e))
       (left ∙ ap (λ (w : ℕ). w * (down e * down d)) h ∙ sym right))
 
 or-split : (a b : Bool) → T (a || b) → T a ⊎ T b
@@ -121,10 +137,13 @@ module _ (f : Format) (x y : Float) (p n q r : ℕ) (a : Part f x p n) (b : Part
   le-part = (there, back)
     where
       there : T (le x y) → p + r ≤ n + q
-      there h = elim (or-split (lt x y) (eq x y) (subst T (le-is x y) h)) [ inl l ↦ le-of-lt (lt-part .0 l) | inr e ↦ le-of-eq (eq-part .0 e) ]
+      there h =
+          elim (or-split (lt x y) (eq x y) (subst T (le-is x y) h)) [ inl l ↦ le-of-lt (lt-part .0 l) | inr e ↦ le-of-eq (eq-part .0 e) ]
 
       back : p + r ≤ n + q → T (le x y)
-      back h = subst T (sym (le-is x y)) (elim (eq-or-lt-of-le h) [ inl e ↦ or-r (lt x y) (eq x y) (eq-part .1 e) | inr l ↦ or-l (lt x y) (eq x y) (lt-part .1 l) ])
+      back h =
+          subst T (sym (le-is x y))
+          (elim (eq-or-lt-of-le h) [ inl e ↦ or-r (lt x y) (eq x y) (eq-part .1 e) | inr l ↦ or-l (lt x y) (eq x y) (lt-part .1 l) ])
 
   -- the tests that fail
   pub not-le-part : T (not (le x y)) → n + q < p + r
@@ -136,11 +155,9 @@ module _ (f : Format) (x y : Float) (p n q r : ℕ) (a : Part f x p n) (b : Part
       le-of-not : {a b : ℕ} → (b < a → ⊥) → a ≤ b
       le-of-not {a} {b} k = omega arith
 
-  pub not-eq-part : T (not (eq x y)) → p + r ≡ n + q → ⊥
-  not-eq-part t h = T-not (eq x y) t (eq-part .1 h)
-
 -- ---- by values: two that are not negative
-pub le-values : (f : Format) (x y : Float) (a b : ℕ) → HasValue x false a (one f) → HasValue y false b (one f) → (T (le x y) → a ≤ b) × (a ≤ b → T (le x y))
+pub le-values : (f : Format) (x y : Float) (a b : ℕ) → HasValue x false a (one f) → HasValue y false b (one f)
+    → (T (le x y) → a ≤ b) × (a ≤ b → T (le x y))
 le-values f x y a b p q =
     let w = le-part f x y a 0 b 0 (plus-part f x a p) (plus-part f y b q) in
     (λ h. less (w .0 h), λ h. w .1 (more h))
@@ -151,7 +168,8 @@ le-values f x y a b p q =
     more : a ≤ b → a + 0 ≤ 0 + b
     more h = omega arith
 
-pub not-le-values : (f : Format) (x y : Float) (a b : ℕ) → HasValue x false a (one f) → HasValue y false b (one f) → T (not (le x y)) → b < a
+pub not-le-values : (f : Format) (x y : Float) (a b : ℕ) → HasValue x false a (one f) → HasValue y false b (one f) → T (not (le x y))
+    → b < a
 not-le-values f x y a b p q t = lt-of-not-le (λ (h : a ≤ b). T-not (le x y) t (le-values f x y a b p q .1 h))
 
 -- ---- for f32: no unit apart is equal

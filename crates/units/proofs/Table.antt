@@ -1,21 +1,17 @@
--- Document 01's table in units: what the two ends of each row are. The rows are opened here and nowhere else.
+-- Document 01's table in units: what the two ends of each row are that a law speaks of. The rows are opened here and nowhere else.
 use mathlib.Core.Path.{refl}
 use Prim.Native.Nat.{_*_, _^_}
 use Rattle.numbers.specs.Limits as rows
 use Rattle.units.specs.Units.{unity}
 use Rattle.units.proofs.Door.{Ends}
 
-pub foot-ends : Ends rows.foot 0 (4 * unity) (4 * unity) 0
-unfolding rows.foot
+pub foot-ends : Ends rows.footLimit 0 (4 * unity) (4 * unity) 0
+unfolding rows.footLimit
 foot-ends = record { from = (refl, refl); to = (refl, refl) }
 
 pub walk-foot-ends : Ends rows.walkFoot 0 (2 * unity) (2 * unity) 0
 unfolding rows.walkFoot
 walk-foot-ends = record { from = (refl, refl); to = (refl, refl) }
-
-pub direction-ends : Ends rows.direction 0 unity unity 0
-unfolding rows.direction
-direction-ends = record { from = (refl, refl); to = (refl, refl) }
 
 pub rotation-ends : Ends rows.rotation 0 (4 * unity) (4 * unity) 0
 unfolding rows.rotation

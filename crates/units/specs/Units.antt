@@ -1,8 +1,9 @@
 -- A finite float as a whole number of units. The unit of a format is its smallest value above zero: 2 ^ -149 for f32.
--- Signs are told by parts: a number is p - n units, of which one is 0. So an order, a sum and an error are each linear, and no whole number is negative.
+-- Signs are told by parts: a number is p - n units, of which one is 0. So an order, a sum and an error are each linear, and no whole
+-- number is negative. These are the words in which the rooms above state their laws; some of them stand in contracts.
 use mathlib.Core.Path.{_≡_}
 use Prim.Native.Nat.{ℕ, _+_, _-_, _*_, _/_, _^_}
-use mathlib.Core.Bool.{Bool, true, false}
+use mathlib.Core.Bool.{true, false}
 use lib.Ieee.{Float, nan, inf, fin, Format, binary32, low, up, down}
 use lib.Ieee.Scale.{grid}
 
@@ -56,17 +57,3 @@ apart x y = gap (hi x + lo y) (lo x + hi y)
 -- a / c rounded to an f32, in units: the nearest, ties to even
 abbrev pub rounded : ℕ → ℕ → ℕ
 rounded a c = grid binary32 a c
-
--- the part of ±a that a sign leaves, and the part that it takes
-abbrev pub plusOf : Bool → ℕ → ℕ
-plusOf false a = a
-plusOf true a = 0
-
-abbrev pub minusOf : Bool → ℕ → ℕ
-minusOf false a = 0
-minusOf true a = a
-
--- which of two parts comes first when the sign turns them
-abbrev pub turned : Bool → ℕ → ℕ → ℕ
-turned false p n = p
-turned true p n = n

@@ -1,22 +1,18 @@
 -- What the facts about a walk stand on: its target and max move, and a point of it, in units.
 use Prim.Native.Nat.{ℕ, _*_, _^_, _≤_}
 use mathlib.Core.Bool.{false}
-use lib.Dec.{T}
-use lib.Ieee.{Float, binary32, fits}
+use lib.Ieee.{Float}
 use lib.Ieee.Exact.{HasValue}
 use Rattle.units.specs.Units.{unity, hi, lo, mag}
 use Rattle.units.proofs.Held.{Single}
 use Rattle.legs.specs.declared.Point.{Point}
 use Rattle.moves.specs.Distance.{Each}
+pub use Rattle.moves.proofs.Squares.{Fit}
 use Rattle.walks.specs.Walk.{spread}
 
 -- both parts are at most k units
 abbrev pub Parts : ℕ → Float → Type 0
 Parts k x = (hi x ≤ k) × (lo x ≤ k)
-
--- the format holds it: every number that the machine has
-abbrev pub Fit : Float → Type 0
-Fit x = T (fits binary32 x)
 
 -- the target is at most 3 either way, the max move from 1/4096 to 1
 pub record Aim (m : Float) (t : Point) : Type 0 where

@@ -20,7 +20,8 @@ pub record Dist (X Y Z qx qy qz s1 s Q u : ℕ) : Type 0 where
   pub root-low : 1023 * (s * u) ≤ 1024 * (Q * Q)
   pub big : 1000000 * u ≤ Q * Q
 
-too-far : (xx yy zz qx qy qz s1 s qq u : ℕ) → 1024 * (qx * u) ≤ 1025 * xx + 512 * u → 1024 * (qy * u) ≤ 1025 * yy + 512 * u → 1024 * (qz * u) ≤ 1025 * zz + 512 * u
+too-far : (xx yy zz qx qy qz s1 s qq u : ℕ) → 1024 * (qx * u) ≤ 1025 * xx + 512 * u → 1024 * (qy * u) ≤ 1025 * yy + 512 * u
+    → 1024 * (qz * u) ≤ 1025 * zz + 512 * u
     → 1024 * s1 ≤ 1025 * (qx + qy) + 512 → 1024 * s ≤ 1025 * (s1 + qz) + 512 → 1024 * qq ≤ 1025 * (s * u) → 1000000 * u ≤ qq
     → 256 * xx ≤ 81 * qq → 256 * yy ≤ 81 * qq → 256 * zz ≤ 81 * qq → 0 < u → ⊥
 too-far xx yy zz qx qy qz s1 s qq u a b c d e f g x y z U =
@@ -32,19 +33,26 @@ square : (X Q : ℕ) → 16 * X < 9 * Q → 256 * (X * X) ≤ 81 * (Q * Q)
 square X Q h = let k : 16 * X * (16 * X) ≤ 9 * Q * (9 * Q) = mul-le-mul (le-of-lt h) (le-of-lt h) in omega arith
 
 pub pick : (X Y Z qx qy qz s1 s Q u : ℕ) → 0 < u → Dist X Y Z qx qy qz s1 s Q u → (9 * Q ≤ 16 * X) ⊎ ((9 * Q ≤ 16 * Y) ⊎ (9 * Q ≤ 16 * Z))
-pick X Y Z qx qy qz s1 s Q u U h = go (ltb (16 * X) (9 * Q)) (ltb (16 * Y) (9 * Q)) (ltb (16 * Z) (9 * Q)) (ltb→lt (16 * X) (9 * Q)) (nltb→le (16 * X) (9 * Q)) (ltb→lt (16 * Y) (9 * Q)) (nltb→le (16 * Y) (9 * Q)) (ltb→lt (16 * Z) (9 * Q)) (nltb→le (16 * Z) (9 * Q))
+pick X Y Z qx qy qz s1 s Q u U h =
+    go (ltb (16 * X) (9 * Q)) (ltb (16 * Y) (9 * Q)) (ltb (16 * Z) (9 * Q)) (ltb→lt (16 * X) (9 * Q))
+    (nltb→le (16 * X) (9 * Q)) (ltb→lt (16 * Y) (9 * Q)) (nltb→le (16 * Y) (9 * Q)) (ltb→lt (16 * Z) (9 * Q))
+    (nltb→le (16 * Z) (9 * Q))
   where
-    go : (a b c : Bool) → (T a → 16 * X < 9 * Q) → (T (not a) → 9 * Q ≤ 16 * X) → (T b → 16 * Y < 9 * Q) → (T (not b) → 9 * Q ≤ 16 * Y) → (T c → 16 * Z < 9 * Q) → (T (not c) → 9 * Q ≤ 16 * Z)
+    go : (a b c : Bool) → (T a → 16 * X < 9 * Q) → (T (not a) → 9 * Q ≤ 16 * X) → (T b → 16 * Y < 9 * Q)
+        → (T (not b) → 9 * Q ≤ 16 * Y) → (T c → 16 * Z < 9 * Q) → (T (not c) → 9 * Q ≤ 16 * Z)
         → (9 * Q ≤ 16 * X) ⊎ ((9 * Q ≤ 16 * Y) ⊎ (9 * Q ≤ 16 * Z))
     go false b c i j k l m n = inl (j tt)
     go true false c i j k l m n = inr (inl (l tt))
     go true true false i j k l m n = inr (inr (n tt))
     go true true true i j k l m n =
-        absurd (too-far (X * X) (Y * Y) (Z * Z) qx qy qz s1 s (Q * Q) u (h .sx .up) (h .sy .up) (h .sz .up) (h .two .up) (h .three .up) (h .root-up) (h .big)
+        absurd
+        (too-far (X * X) (Y * Y) (Z * Z) qx qy qz s1 s (Q * Q) u (h .sx .up) (h .sy .up) (h .sz .up) (h .two .up)
+        (h .three .up) (h .root-up) (h .big)
         (square X Q (i tt)) (square Y Q (k tt)) (square Z Q (m tt)) U)
 
 -- no difference is twice the distance
-too-near : (ww qw s1 s qq u rest rest' : ℕ) → 1023 * ww ≤ 1024 * (qw * u) + 512 * u → 1023 * (qw + rest) ≤ 1024 * s1 + 512 → 1023 * (s1 + rest') ≤ 1024 * s + 512
+too-near : (ww qw s1 s qq u rest rest' : ℕ) → 1023 * ww ≤ 1024 * (qw * u) + 512 * u → 1023 * (qw + rest) ≤ 1024 * s1 + 512
+    → 1023 * (s1 + rest') ≤ 1024 * s + 512
     → 1023 * (s * u) ≤ 1024 * qq → 1000000 * u ≤ qq → 4 * qq ≤ ww → 0 < u → ⊥
 too-near ww qw s1 s qq u r r' a b c d e f U =
     let b' : 1023 * (qw + r) * u ≤ (1024 * s1 + 512) * u = mul-le-mul-right u b in
@@ -65,12 +73,18 @@ swap a b c h = omega arith
 
 pub under : (X Y Z qx qy qz s1 s Q u : ℕ) → 0 < u → Dist X Y Z qx qy qz s1 s Q u → (X < 2 * Q) × (Y < 2 * Q) × (Z < 2 * Q)
 under X Y Z qx qy qz s1 s Q u U h = (
-  lt-of-not-le (λ (g : 2 * Q ≤ X). too-near (X * X) qx s1 s (Q * Q) u qy qz (h .sx .low) (h .two .low) (h .three .low) (h .root-low) (h .big) (twice X Q g) U),
-  lt-of-not-le (λ (g : 2 * Q ≤ Y). too-near (Y * Y) qy s1 s (Q * Q) u qx qz (h .sy .low) (swap qx qy (1024 * s1 + 512) (h .two .low)) (h .three .low) (h .root-low) (h .big) (twice Y Q g) U),
-  lt-of-not-le (λ (g : 2 * Q ≤ Z). too-near-last (Z * Z) qz s1 s (Q * Q) u (h .sz .low) (h .three .low) (h .root-low) (h .big) (twice Z Q g) U),
+  lt-of-not-le
+      (λ (g : 2 * Q ≤ X). too-near (X * X) qx s1 s (Q * Q) u qy qz
+      (h .sx .low) (h .two .low) (h .three .low) (h .root-low) (h .big) (twice X Q g) U),
+  lt-of-not-le
+      (λ (g : 2 * Q ≤ Y). too-near (Y * Y) qy s1 s (Q * Q) u qx qz
+      (h .sy .low) (swap qx qy (1024 * s1 + 512) (h .two .low)) (h .three .low) (h .root-low) (h .big) (twice Y Q g) U),
+  lt-of-not-le
+      (λ (g : 2 * Q ≤ Z). too-near-last (Z * Z) qz s1 s (Q * Q) u (h .sz .low) (h .three .low) (h .root-low) (h .big) (twice Z Q g) U),
 )
 
--- ---- one coordinate's move: E is the exact difference, D the rounded one, G = D / Q, H = G * M. An error is a multiple of δ = 2 ^ -24; a sum's is 16 * δ
+-- ---- one coordinate's move: E is the exact difference, D the rounded one, G = D / Q, H = G * M. An error is a multiple of δ = 2 ^
+-- -24; a sum's is 16 * δ
 pub record Move (E D G H M Q u δ : ℕ) : Type 0 where
   pub diff : Within D E (16 * δ)
   pub quot : Within (G * Q) (D * u) (Q * δ)
@@ -103,13 +117,16 @@ move-low E D G H M Q u δ QP UP MU k h =
     let d : G * M ≤ H * u + u * (2 * δ) = h .prod .low in
     le-of-mul-le-mul-right {m = 9 * M} {n = 16 * H + 48 * δ} {k = u} (omega arith) UP
 
--- ---- (d) one coordinate after the step. The target is pt - nt and the last point pl - nl; the move is H, towards the target, which is not below; the new point is Np - Nn,
+-- ---- (d) one coordinate after the step. The target is pt - nt and the last point pl - nl; the move is H, towards the target, which is
+-- not below; the new point is Np - Nn,
 -- and A - B is what the sum last + move is before its rounding
-still-up : (pt nt pl nl H A B Np Nn E M Q D δ : ℕ) → E + (nt + pl) ≡ pt + nl → A + nl ≡ B + (pl + H) → Within Np A (16 * δ) → Within Nn B (16 * δ) → H ≤ E + 19 * δ
+still-up : (pt nt pl nl H A B Np Nn E M Q D δ : ℕ) → E + (nt + pl) ≡ pt + nl → A + nl ≡ B + (pl + H) → Within Np A (16 * δ)
+    → Within Nn B (16 * δ) → H ≤ E + 19 * δ
     → gap (pt + Nn) (nt + Np) ≤ E + 51 * δ
 still-up pt nt pl nl H A B Np Nn E M Q D δ e a np nn h = omega arith
 
-most-up : (pt nt pl nl H A B Np Nn E M Q D δ : ℕ) → E + (nt + pl) ≡ pt + nl → A + nl ≡ B + (pl + H) → Within Np A (16 * δ) → Within Nn B (16 * δ) → H ≤ E + 19 * δ
+most-up : (pt nt pl nl H A B Np Nn E M Q D δ : ℕ) → E + (nt + pl) ≡ pt + nl → A + nl ≡ B + (pl + H) → Within Np A (16 * δ)
+    → Within Nn B (16 * δ) → H ≤ E + 19 * δ
     → D ≤ E + 16 * δ → M ≤ Q → 9 * Q ≤ 16 * D → 9 * M ≤ 16 * H + 48 * δ
     → 16 * gap (pt + Nn) (nt + Np) + 9 * M ≤ 16 * E + 1072 * δ
 most-up pt nt pl nl H A B Np Nn E M Q D δ e a np nn h d mq q m = omega arith
@@ -163,16 +180,15 @@ coord-flip pt nt pl nl Np Nn M Q Dp Dn δ c =
     let g : gap (nt + pl) (pt + nl) ≡ gap (pt + nl) (nt + pl) = gap-comm (nt + pl) (pt + nl) in
     let g' : gap (nt + Np) (pt + Nn) ≡ gap (pt + Nn) (nt + Np) = gap-comm (nt + Np) (pt + Nn) in
     record {
-      still = subst (λ (x : ℕ). x ≤ gap (pt + nl) (nt + pl) + 51 * δ) g' (subst (λ (x : ℕ). gap (nt + Np) (pt + Nn) ≤ x + 51 * δ) g (c .still));
+      still =
+          subst (λ (x : ℕ). x ≤ gap (pt + nl) (nt + pl) + 51 * δ) g' (subst (λ (x : ℕ). gap (nt + Np) (pt + Nn) ≤ x + 51 * δ) g (c .still));
       most = λ k.
           subst (λ (x : ℕ). 16 * x + 9 * M ≤ 16 * gap (pt + nl) (nt + pl) + 1072 * δ) g'
-          (subst (λ (x : ℕ). 16 * gap (nt + Np) (pt + Nn) + 9 * M ≤ 16 * x + 1072 * δ) g (c .most (subst (λ (x : ℕ). 9 * Q ≤ 16 * x) (add-comm Dp Dn) k)));
+          (subst (λ (x : ℕ). 16 * gap (nt + Np) (pt + Nn) + 9 * M ≤ 16 * x + 1072 * δ) g
+          (c .most (subst (λ (x : ℕ). 9 * Q ≤ 16 * x) (add-comm Dp Dn) k)));
     }
 
 -- ---- (e) the three coordinates together; a, b, c are the gaps before and a', b', c' after
-sum-up : (a b c a' b' c' M δ : ℕ) → 2704 * δ ≤ M → 16 * a' + 9 * M ≤ 16 * a + 1072 * δ → b' ≤ b + 51 * δ → c' ≤ c + 51 * δ → 2 * (a' + b' + c') + M ≤ 2 * (a + b + c)
-sum-up a b c a' b' c' M δ m x y z = omega arith
-
 pub lower : (a b c a' b' c' M δ : ℕ) (P Q R : Type 0) → 2704 * δ ≤ M
     → (P → 16 * a' + 9 * M ≤ 16 * a + 1072 * δ) → (Q → 16 * b' + 9 * M ≤ 16 * b + 1072 * δ) → (R → 16 * c' + 9 * M ≤ 16 * c + 1072 * δ)
     → a' ≤ a + 51 * δ → b' ≤ b + 51 * δ → c' ≤ c + 51 * δ → P ⊎ (Q ⊎ R) → 2 * (a' + b' + c') + M ≤ 2 * (a + b + c)

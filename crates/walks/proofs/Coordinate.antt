@@ -45,7 +45,11 @@ abbrev pub move : ℕ → ℕ → ℕ → ℕ
 move d Q M = rounded (rounded d Q * M) (unity * unity)
 
 pub move-zero : (d Q M : ℕ) → 0 < Q → d ≡ 0 → move d Q M ≡ 0
-move-zero d Q M QP e = ap (λ (x : ℕ). rounded (rounded x Q * M) (unity * unity)) e ∙ ap (λ (x : ℕ). rounded (x * M) (unity * unity)) (grid-zero binary32 Q QP) ∙ ap (λ (x : ℕ). rounded x (unity * unity)) (zero-mul M) ∙ grid-zero binary32 (unity * unity) (mul-pos unity-pos unity-pos)
+move-zero d Q M QP e =
+    ap (λ (x : ℕ). rounded (rounded x Q * M) (unity * unity)) e
+    ∙ ap (λ (x : ℕ). rounded (x * M) (unity * unity)) (grid-zero binary32 Q QP)
+    ∙ ap (λ (x : ℕ). rounded x (unity * unity)) (zero-mul M)
+    ∙ grid-zero binary32 (unity * unity) (mul-pos unity-pos unity-pos)
 
 pub diff-zero : (a b : ℕ) → a ≤ b → diff a b ≡ 0
 diff-zero a b h = ap (λ (x : ℕ). rounded x unity) (none a b h) ∙ grid-zero binary32 unity unity-pos
@@ -53,7 +57,8 @@ diff-zero a b h = ap (λ (x : ℕ). rounded x unity) (none a b h) ∙ grid-zero 
 small-prod : (d Q M : ℕ) → 0 < Q → d < 2 * Q → M ≤ unity → rounded d Q * M < 4 * (unity * unity)
 small-prod d Q M QP h m = prod-4 (rounded d Q) M unity unity-pos (div-le d Q QP h) m
 
-pub moves : (a b Q M : ℕ) → 0 < Q → M ≤ unity → a - b < 2 ^ 154 → diff a b < 2 * Q → Move (a - b) (diff a b) (rounded (diff a b) Q) (move (diff a b) Q M) M Q unity δ
+pub moves : (a b Q M : ℕ) → 0 < Q → M ≤ unity → a - b < 2 ^ 154 → diff a b < 2 * Q
+    → Move (a - b) (diff a b) (rounded (diff a b) Q) (move (diff a b) Q M) M Q unity δ
 moves a b Q M QP m h k = record {
   diff = sum-abs (a - b) h;
   quot = div-abs (diff a b) Q QP k;
@@ -66,7 +71,8 @@ below-over x h = lt-of-le-of-lt h (lit< tt)
 abbrev pub next : ℕ → ℕ → ℕ → ℕ → ℕ → ℕ → ℕ
 next pt nt pl nl Q M = rounded (pl + move (diff (pt + nl) (nt + pl)) Q M - (nl + move (diff (nt + pl) (pt + nl)) Q M)) unity
 
-module _ (pl nl pt nt Q M : ℕ) (QP : 0 < Q) (MQ : M ≤ Q) (MU : M ≤ unity) (pls : pl ≤ 21 * unity) (nls : nl ≤ 21 * unity) (near : gap (pt + nl) (nt + pl) ≤ 18 * unity)
+module _ (pl nl pt nt Q M : ℕ) (QP : 0 < Q) (MQ : M ≤ Q) (MU : M ≤ unity) (pls : pl ≤ 21 * unity)
+    (nls : nl ≤ 21 * unity) (near : gap (pt + nl) (nt + pl) ≤ 18 * unity)
     (kp : diff (pt + nl) (nt + pl) < 2 * Q) (kn : diff (nt + pl) (pt + nl) < 2 * Q) where
   move-le-p : move (diff (pt + nl) (nt + pl)) Q M ≤ 4 * unity
   move-le-p = mul-le (rounded (diff (pt + nl) (nt + pl)) Q * M) (small-prod (diff (pt + nl) (nt + pl)) Q M QP kp MU)
@@ -80,7 +86,8 @@ module _ (pl nl pt nt Q M : ℕ) (QP : 0 < Q) (MQ : M ≤ Q) (MU : M ≤ unity) 
   pub sum-n : nl + move (diff (nt + pl) (pt + nl)) Q M - (pl + move (diff (pt + nl) (nt + pl)) Q M) < 2 ^ 154
   sum-n = sum-32 nl (move (diff (nt + pl) (pt + nl)) Q M) (pl + move (diff (pt + nl) (nt + pl)) Q M) unity unity-pos nls move-le-n
 
-  pub coord-fact : Coord pt nt pl nl (next pt nt pl nl Q M) (next nt pt nl pl Q M) M Q (diff (pt + nl) (nt + pl) + diff (nt + pl) (pt + nl)) δ
+  pub coord-fact : Coord pt nt pl nl (next pt nt pl nl Q M) (next nt pt nl pl Q M) M Q
+      (diff (pt + nl) (nt + pl) + diff (nt + pl) (pt + nl)) δ
   coord-fact =
       let a = pt + nl in
       let b = nt + pl in
@@ -90,14 +97,17 @@ module _ (pl nl pt nt Q M : ℕ) (QP : 0 < Q) (MQ : M ≤ Q) (MU : M ≤ unity) 
       let wp = sum-abs (pl + move (diff a b) Q M - (nl + move (diff b a) Q M)) sum-p in
       let wn = sum-abs (nl + move (diff b a) Q M - (pl + move (diff a b) Q M)) sum-n in
       elim (total b a) [
-        | inl h ↦ coord-up pt nt pl nl (diff a b) (diff b a) (rounded (diff a b) Q) (move (diff a b) Q M) (move (diff b a) Q M) (next pt nt pl nl Q M) (next nt pt nl pl Q M) M Q unity δ
+        | inl h ↦ coord-up pt nt pl nl (diff a b) (diff b a) (rounded (diff a b) Q) (move (diff a b) Q M)
+            (move (diff b a) Q M) (next pt nt pl nl Q M) (next nt pt nl pl Q M) M Q unity δ
             QP unity-pos MQ MU h (diff-zero b a h) (move-zero (diff b a) Q M QP (diff-zero b a h)) mp wp wn
         | inr h ↦ coord-flip pt nt pl nl (next pt nt pl nl Q M) (next nt pt nl pl Q M) M Q (diff a b) (diff b a) δ
-            (coord-up nt pt nl pl (diff b a) (diff a b) (rounded (diff b a) Q) (move (diff b a) Q M) (move (diff a b) Q M) (next nt pt nl pl Q M) (next pt nt pl nl Q M) M Q unity δ
+            (coord-up nt pt nl pl (diff b a) (diff a b) (rounded (diff b a) Q) (move (diff b a) Q M)
+            (move (diff a b) Q M) (next nt pt nl pl Q M) (next pt nt pl nl Q M) M Q unity δ
             QP unity-pos MQ MU h (diff-zero a b h) (move-zero (diff a b) Q M QP (diff-zero a b h)) mn wn wp)
       ]
 
-  pub coord-part : (l t dist m : Float) → Part binary32 l pl nl → Part binary32 t pt nt → HasValue dist false Q unity → HasValue m false M unity
+  pub coord-part : (l t dist m : Float) → Part binary32 l pl nl → Part binary32 t pt nt → HasValue dist false Q unity
+      → HasValue m false M unity
       → Part binary32 (component dist m l t) (next pt nt pl nl Q M) (next nt pt nl pl Q M)
   unfolding component
   coord-part l t dist m lp tp dv mv =
@@ -106,7 +116,8 @@ module _ (pl nl pt nt Q M : ℕ) (QP : 0 < Q) (MQ : M ≤ Q) (MU : M ≤ unity) 
       let d : Part binary32 (sub binary32 t l) (diff a b) (diff b a) = diff-part t l pt nt pl nl tp lp near in
       let q : Part binary32 (div binary32 (sub binary32 t l) dist) (rounded (diff a b) Q) (rounded (diff b a) Q) =
       div-part binary32 (sub binary32 t l) dist false (diff a b) (diff b a) Q d dv QP
-      (below-over (rounded (diff a b) Q) (le-trans (div-le (diff a b) Q QP kp) (lit≤ tt))) (below-over (rounded (diff b a) Q) (le-trans (div-le (diff b a) Q QP kn) (lit≤ tt))) in
+      (below-over (rounded (diff a b) Q) (le-trans (div-le (diff a b) Q QP kp) (lit≤ tt)))
+      (below-over (rounded (diff b a) Q) (le-trans (div-le (diff b a) Q QP kn) (lit≤ tt))) in
       let h : Part binary32 (mul binary32 (div binary32 (sub binary32 t l) dist) m) (move (diff a b) Q M) (move (diff b a) Q M) =
       mul-part binary32 (div binary32 (sub binary32 t l) dist) m false (rounded (diff a b) Q) (rounded (diff b a) Q) M q mv
       (below-over (move (diff a b) Q M) (le-trans move-le-p (lit≤ tt))) (below-over (move (diff b a) Q M) (le-trans move-le-n (lit≤ tt))) in

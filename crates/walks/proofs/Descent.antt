@@ -2,7 +2,7 @@
 -- Only the largest difference counts: it falls by 9/16 of the max move but for rounding, and no other rises by more than rounding.
 use mathlib.Core.Path.{_≡_, sym, ap, _∙_, subst}
 use mathlib.Core.Logic.{_⊎_, inl, inr}
-use Prim.Native.Nat.{ℕ, _+_, _-_, _*_, _≤_, _<_, zero-le}
+use Prim.Native.Nat.{ℕ, _+_, _*_, _≤_, _<_, zero-le}
 use native.Mathlib.Nat.{le-trans, le-of-lt, lt-of-le-of-lt}
 use native.Mathlib.Omega.{arith}
 use mathlib.Core.Bool.{false, not}
@@ -24,7 +24,8 @@ use Rattle.walks.proofs.Coordinate.{next, coord-fact, coord-part, δ}
 use Rattle.walks.proofs.Far.{distance-rooted, dist-facts}
 use Rattle.walks.proofs.Aim.{Aim, OnWay}
 
-pub reach : (pt nt pl nl u : ℕ) → (pl ≡ 0) ⊎ (nl ≡ 0) → gap (pt + nl) (nt + pl) ≤ 18 * u → pt ≤ 3 * u → nt ≤ 3 * u → (pl ≤ 21 * u) × (nl ≤ 21 * u)
+pub reach : (pt nt pl nl u : ℕ) → (pl ≡ 0) ⊎ (nl ≡ 0) → gap (pt + nl) (nt + pl) ≤ 18 * u → pt ≤ 3 * u → nt ≤ 3 * u
+    → (pl ≤ 21 * u) × (nl ≤ 21 * u)
 reach pt nt pl nl u (inl z) g a b = (omega arith, omega arith)
 reach pt nt pl nl u (inr z) g a b = (omega arith, omega arith)
 
@@ -40,17 +41,21 @@ record One (l t dist m : Float) (Q M D : ℕ) : Type 0 where
   still : apart t (component dist m l t) ≤ apart t l + 51 * δ
   most : 9 * Q ≤ 16 * D → 16 * apart t (component dist m l t) + 9 * M ≤ 16 * apart t l + 1072 * δ
 
-one : (l t dist m : Float) (Q M : ℕ) → Units l → Units t → HasValue dist false Q unity → HasValue m false M unity → 0 < Q → M ≤ Q → M ≤ unity
+one : (l t dist m : Float) (Q M : ℕ) → Units l → Units t → HasValue dist false Q unity → HasValue m false M unity → 0 < Q
+    → M ≤ Q → M ≤ unity
     → hi t ≤ 3 * unity → lo t ≤ 3 * unity → apart t l ≤ 18 * unity → size t l < 2 * Q → One l t dist m Q M (size t l)
 one l t dist m Q M ul ut dv mv QP MQ MU ht nt near k =
     let r = reach (hi t) (lo t) (hi l) (lo l) unity (one-side binary32 l (hi l) (lo l) ul) near ht nt in
     let ks = parts-lt (diff (hi t + lo l) (lo t + hi l)) (diff (lo t + hi l) (hi t + lo l)) (2 * Q) k in
     let Np = next (hi t) (lo t) (hi l) (lo l) Q M in
     let Nn = next (lo t) (hi t) (lo l) (hi l) Q M in
-    let p : Part binary32 (component dist m l t) Np Nn = coord-part (hi l) (lo l) (hi t) (lo t) Q M QP MQ MU (r .0) (r .1) near (ks .0) (ks .1) l t dist m ul ut dv mv in
-    let c : Coord (hi t) (lo t) (hi l) (lo l) Np Nn M Q (size t l) δ = coord-fact (hi l) (lo l) (hi t) (lo t) Q M QP MQ MU (r .0) (r .1) near (ks .0) (ks .1) in
+    let p : Part binary32 (component dist m l t) Np Nn =
+    coord-part (hi l) (lo l) (hi t) (lo t) Q M QP MQ MU (r .0) (r .1) near (ks .0) (ks .1) l t dist m ul ut dv mv in
+    let c : Coord (hi t) (lo t) (hi l) (lo l) Np Nn M Q (size t l) δ =
+    coord-fact (hi l) (lo l) (hi t) (lo t) Q M QP MQ MU (r .0) (r .1) near (ks .0) (ks .1) in
     let e : gap (hi t + Nn) (lo t + Np) ≡ apart t (component dist m l t) =
-    ap (λ (w : ℕ). gap (hi t + w) (lo t + Np)) (sym (lo-is (component dist m l t) Np Nn p)) ∙ ap (λ (w : ℕ). gap (hi t + lo (component dist m l t)) (lo t + w)) (sym (hi-is (component dist m l t) Np Nn p)) in
+    ap (λ (w : ℕ). gap (hi t + w) (lo t + Np)) (sym (lo-is (component dist m l t) Np Nn p))
+    ∙ ap (λ (w : ℕ). gap (hi t + lo (component dist m l t)) (lo t + w)) (sym (hi-is (component dist m l t) Np Nn p)) in
     record {
       units = units-of (component dist m l t) Np Nn p;
       still = subst (λ (w : ℕ). w ≤ apart t l + 51 * δ) e (c .still);
@@ -114,14 +119,21 @@ module _ (m : Float) (l t : Point) (aim : Aim m t) (way : OnWay l t) (far : T (n
       let Q = w .Q in
       let M = mag m in
       let QP : 0 < Q = lt-of-le-of-lt zero-le (w .above) in
-      let cx = one (l .x) (t .x) d m Q M (way .point .0 .ok) (aim .target .0 .ok) (w .value) (aim .move) QP (le-of-lt (w .above)) (aim .to) (aim .near .0 .0) (aim .near .0 .1) (near .0) (w .kx) in
-      let cy = one (l .y) (t .y) d m Q M (way .point .1 .ok) (aim .target .1 .ok) (w .value) (aim .move) QP (le-of-lt (w .above)) (aim .to) (aim .near .1 .0) (aim .near .1 .1) (near .1) (w .ky) in
-      let cz = one (l .z) (t .z) d m Q M (way .point .2 .ok) (aim .target .2 .ok) (w .value) (aim .move) QP (le-of-lt (w .above)) (aim .to) (aim .near .2 .0) (aim .near .2 .1) (near .2) (w .kz) in
+      let cx =
+      one (l .x) (t .x) d m Q M (way .point .0 .ok) (aim .target .0 .ok) (w .value) (aim .move) QP
+      (le-of-lt (w .above)) (aim .to) (aim .near .0 .0) (aim .near .0 .1) (near .0) (w .kx) in
+      let cy =
+      one (l .y) (t .y) d m Q M (way .point .1 .ok) (aim .target .1 .ok) (w .value) (aim .move) QP
+      (le-of-lt (w .above)) (aim .to) (aim .near .1 .0) (aim .near .1 .1) (near .1) (w .ky) in
+      let cz =
+      one (l .z) (t .z) d m Q M (way .point .2 .ok) (aim .target .2 .ok) (w .value) (aim .move) QP
+      (le-of-lt (w .above)) (aim .to) (aim .near .2 .0) (aim .near .2 .1) (near .2) (w .kz) in
       record {
         units = (cx .units, cy .units, cz .units);
         lowered =
             lower (apart (t .x) (l .x)) (apart (t .y) (l .y)) (apart (t .z) (l .z))
-            (apart (t .x) (component d m (l .x) (t .x))) (apart (t .y) (component d m (l .y) (t .y))) (apart (t .z) (component d m (l .z) (t .z))) M δ
+            (apart (t .x) (component d m (l .x) (t .x))) (apart (t .y) (component d m (l .y) (t .y)))
+            (apart (t .z) (component d m (l .z) (t .z))) M δ
             (9 * Q ≤ 16 * size (t .x) (l .x)) (9 * Q ≤ 16 * size (t .y) (l .y)) (9 * Q ≤ 16 * size (t .z) (l .z)) enough
             (cx .most) (cy .most) (cz .most) (cx .still) (cy .still) (cz .still) (w .largest);
       }

@@ -1,4 +1,5 @@
--- Every walk that the facts hold for has a count: S falls with each step, so that no more than S steps are made. A printer, and six feet in rounds, go without
+-- Every walk that the facts hold for has a count: S falls with each step, so that no more than S steps are made. A printer, and six
+-- feet in rounds, go without
 -- knowing it.
 use mathlib.Core.Path.{_≡_, refl}
 use mathlib.Core.Bool.{Bool, true, false}
@@ -26,7 +27,8 @@ module _ (m : Float) (s t : Point) where
   Ended = (n : ℕ) × Walk m s t n × (n ≤ 147457)
 
   -- at l, after k steps: it has arrived, or goes on from a point that is nearer
-  goes-on : (l : Point) (k : ℕ) (b : Bool) → same l t ≡ b → Going m s t l k → ((p : Point) → Going m s t p (k + 1) → spread p t < spread l t → Ended) → Ended
+  goes-on : (l : Point) (k : ℕ) (b : Bool) → same l t ≡ b → Going m s t l k
+      → ((p : Point) → Going m s t p (k + 1) → spread p t < spread l t → Ended) → Ended
   goes-on l k true e g on = (k, going-ends m s t l t k g (stands l t m e), going-few m s t l k g)
   goes-on l k false e g on =
       let p = nearer (distance l t) l t m in
@@ -43,7 +45,8 @@ module _ (m : Float) (s t : Point) where
       fewer {a} {b} i j = omega arith
 
   pub ends : Fit m → Each Fit s → Each Fit t → Reach m s t → Ended
-  ends Fm Fs Ft r = ends-within (spread s t) s 0 (going-start m s t (aimed m s t r Fm Fs Ft) (set-out m s t r Fm Fs Ft)) (le-refl (spread s t))
+  ends Fm Fs Ft r =
+      ends-within (spread s t) s 0 (going-start m s t (aimed m s t r Fm Fs Ft) (set-out m s t r Fm Fs Ft)) (le-refl (spread s t))
 
   -- what the door lets in
   pub let-in-ends : Fit m → Each Fit s → Each Fit t → walkRefusal m s t ≡ 0 → Ended
@@ -51,7 +54,8 @@ module _ (m : Float) (s t : Point) where
 
 -- ---- six feet
 module _ (m : Float) (s t : Feet) where
-  pub feet-end : Fit m → ((l : Leg) → Each Fit (foot s l)) → ((l : Leg) → Each Fit (foot t l)) → ReachFeet m s t → (k : ℕ) × WalkFeet m s t k × (k ≤ 147457)
+  pub feet-end : Fit m → ((l : Leg) → Each Fit (foot s l)) → ((l : Leg) → Each Fit (foot t l)) → ReachFeet m s t
+      → (k : ℕ) × WalkFeet m s t k × (k ≤ 147457)
   feet-end Fm Fs Ft r =
       let e : (l : Leg) → Ended m (foot s l) (foot t l) = λ l. ends m (foot s l) (foot t l) Fm (Fs l) (Ft l) (r l) in
       let g : Leg → ℕ = λ l. e l .0 in

@@ -24,7 +24,8 @@ crude-low s q h = omega arith
 crude-up : (s q : ℕ) → 2 ^ 22 * q ≤ (2 ^ 22 + 1) * s → 1024 * q ≤ 1025 * s
 crude-up s q h = omega arith
 
-pub dist-facts : (X Y Z : ℕ) (r : Float) (w : Rooted r (all X Y Z)) → 2 ^ 137 ≤ w .q → Dist X Y Z (sq X) (sq Y) (sq Z) (both X Y) (all X Y Z) (w .q) unity
+pub dist-facts : (X Y Z : ℕ) (r : Float) (w : Rooted r (all X Y Z)) → 2 ^ 137 ≤ w .q
+    → Dist X Y Z (sq X) (sq Y) (sq Z) (both X Y) (all X Y Z) (w .q) unity
 dist-facts X Y Z r w h = record {
   sx = multiplied (X * X);
   sy = multiplied (Y * Y);

@@ -1,7 +1,7 @@
 -- Six feet walk as six single ones: each foot's way is its own walk, an arrived foot stays, and the largest count is the six feet's.
 use mathlib.Core.Path.{_≡_, refl, sym, ap, _∙_, subst}
 use mathlib.Core.Logic.{_⊎_, inl, inr, ⊎-elim}
-use Prim.Native.Nat.{ℕ, zero, suc, _-_, _*_, _≤_, _<_}
+use Prim.Native.Nat.{ℕ, zero, suc, _*_, _≤_, _<_}
 use native.Mathlib.Nat.{le-trans, le-of-lt, le-refl, eq-or-lt-of-le, lt-of-lt-of-le, le-of-eq}
 use native.Mathlib.Omega.{arith}
 use mathlib.Core.Bool.{Bool, true, false, _&&_}
@@ -19,13 +19,14 @@ use Rattle.moves.specs.Moving.{moveTowards, pointOf}
 use Rattle.moves.proofs.Steps.{stands}
 use Rattle.moves.proofs.FootByFoot.{each-foot}
 use Rattle.walks.specs.Walk.{pointAfter, feetAfter, Walk, WalkFeet, larger, largest, allArrived}
-use Rattle.walks.proofs.Door.{each-of-every}
+use Rattle.legs.proofs.Laws.{each-of-every}
 
 -- ---- each foot's way is its own
 pub each-foot-after : (m : Float) (s t : Feet) (k : ℕ) (l : Leg) → foot (feetAfter m s t k) l ≡ pointAfter m (foot s l) (foot t l) k
 unfolding feetAfter pointAfter
 each-foot-after m s t zero l = refl
-each-foot-after m s t (suc k) l = each-foot (feetAfter m s t k) t m l ∙ ap (λ (p : Point). pointOf (moveTowards p (foot t l) m)) (each-foot-after m s t k l)
+each-foot-after m s t (suc k) l =
+    each-foot (feetAfter m s t k) t m l ∙ ap (λ (p : Point). pointOf (moveTowards p (foot t l) m)) (each-foot-after m s t k l)
 
 -- ---- what is equal to something is equal to itself
 eq-self : (x y : Float) → T (eq x y) → T (eq y y)
@@ -45,14 +46,17 @@ unfolding same
 same-self l t h =
     let xy = and-l (eq (l .x) (t .x) && eq (l .y) (t .y)) (eq (l .z) (t .z)) h in
     and-i (eq (t .x) (t .x) && eq (t .y) (t .y)) (eq (t .z) (t .z))
-    (and-i (eq (t .x) (t .x)) (eq (t .y) (t .y)) (eq-self (l .x) (t .x) (and-l (eq (l .x) (t .x)) (eq (l .y) (t .y)) xy)) (eq-self (l .y) (t .y) (and-r (eq (l .x) (t .x)) (eq (l .y) (t .y)) xy)))
+    (and-i (eq (t .x) (t .x)) (eq (t .y) (t .y))
+    (eq-self (l .x) (t .x) (and-l (eq (l .x) (t .x)) (eq (l .y) (t .y)) xy))
+    (eq-self (l .y) (t .y) (and-r (eq (l .x) (t .x)) (eq (l .y) (t .y)) xy)))
     (eq-self (l .z) (t .z) (and-r (eq (l .x) (t .x) && eq (l .y) (t .y)) (eq (l .z) (t .z)) h))
 
 -- ---- what has arrived stays
 pub stays : (m : Float) (s t : Point) (k : ℕ) → T (same (pointAfter m s t k) t) → T (same (pointAfter m s t (suc k)) t)
 unfolding pointAfter pointOf
 stays m s t k h =
-    let e : pointOf (moveTowards (pointAfter m s t k) t m) ≡ t = ap pointOf (stands (pointAfter m s t k) t m (is-true (same (pointAfter m s t k) t) h)) in
+    let e : pointOf (moveTowards (pointAfter m s t k) t m) ≡ t =
+    ap pointOf (stands (pointAfter m s t k) t m (is-true (same (pointAfter m s t k) t) h)) in
     subst (λ (p : Point). T (same p t)) (sym e) (same-self (pointAfter m s t k) t h)
 
 pub still-there : (m : Float) (s t : Point) (k j : ℕ) → k ≤ j → T (same (pointAfter m s t k) t) → T (same (pointAfter m s t j) t)
@@ -61,7 +65,8 @@ still-there m s t k zero h a = subst (λ (n : ℕ). T (same (pointAfter m s t n)
     none : k ≤ 0 → k ≡ 0
     none h = omega arith
 still-there m s t k (suc j) h a =
-    ⊎-elim (λ e. subst (λ (n : ℕ). T (same (pointAfter m s t n) t)) e a) (λ l. stays m s t j (still-there m s t k j (before l) a)) (eq-or-lt-of-le h)
+    ⊎-elim (λ e. subst (λ (n : ℕ). T (same (pointAfter m s t n) t)) e a)
+    (λ l. stays m s t j (still-there m s t k j (before l) a)) (eq-or-lt-of-le h)
   where
     before : k < suc j → k ≤ j
     before l = omega arith
@@ -70,7 +75,8 @@ still-there m s t k (suc j) h a =
 larger-cases : (a b : ℕ) → (a ≤ larger a b) × (b ≤ larger a b) × ((larger a b ≡ a) ⊎ (larger a b ≡ b))
 larger-cases a b = by-test (ltb a b) (ltb-true a b) (ltb-false a b)
   where
-    by-test : (x : Bool) → (x ≡ true → a < b) → (x ≡ false → b ≤ a) → (a ≤ choose x b a) × (b ≤ choose x b a) × ((choose x b a ≡ a) ⊎ (choose x b a ≡ b))
+    by-test : (x : Bool) → (x ≡ true → a < b) → (x ≡ false → b ≤ a)
+        → (a ≤ choose x b a) × (b ≤ choose x b a) × ((choose x b a ≡ a) ⊎ (choose x b a ≡ b))
     by-test true f g = (le-of-lt (f refl), le-refl b, inr refl)
     by-test false f g = (le-refl a, g refl, inl refl)
 
@@ -87,14 +93,23 @@ module _ (g : Leg → ℕ) where
   abbrev five : ℕ
   five = larger four (g leftRear)
 
-  abbrev six : ℕ
-  six = larger five (g rightRear)
-
   pub none-larger : (l : Leg) → g l ≤ largest (row g)
-  none-larger leftFront = le-trans (larger-cases (g leftFront) (g rightFront) .0) (le-trans (larger-cases two (g leftMiddle) .0) (le-trans (larger-cases three (g rightMiddle) .0) (le-trans (larger-cases four (g leftRear) .0) (larger-cases five (g rightRear) .0))))
-  none-larger rightFront = le-trans (larger-cases (g leftFront) (g rightFront) .1) (le-trans (larger-cases two (g leftMiddle) .0) (le-trans (larger-cases three (g rightMiddle) .0) (le-trans (larger-cases four (g leftRear) .0) (larger-cases five (g rightRear) .0))))
-  none-larger leftMiddle = le-trans (larger-cases two (g leftMiddle) .1) (le-trans (larger-cases three (g rightMiddle) .0) (le-trans (larger-cases four (g leftRear) .0) (larger-cases five (g rightRear) .0)))
-  none-larger rightMiddle = le-trans (larger-cases three (g rightMiddle) .1) (le-trans (larger-cases four (g leftRear) .0) (larger-cases five (g rightRear) .0))
+  none-larger leftFront =
+      le-trans (larger-cases (g leftFront) (g rightFront) .0)
+      (le-trans (larger-cases two (g leftMiddle) .0)
+      (le-trans (larger-cases three (g rightMiddle) .0)
+      (le-trans (larger-cases four (g leftRear) .0) (larger-cases five (g rightRear) .0))))
+  none-larger rightFront =
+      le-trans (larger-cases (g leftFront) (g rightFront) .1)
+      (le-trans (larger-cases two (g leftMiddle) .0)
+      (le-trans (larger-cases three (g rightMiddle) .0)
+      (le-trans (larger-cases four (g leftRear) .0) (larger-cases five (g rightRear) .0))))
+  none-larger leftMiddle =
+      le-trans (larger-cases two (g leftMiddle) .1)
+      (le-trans (larger-cases three (g rightMiddle) .0)
+      (le-trans (larger-cases four (g leftRear) .0) (larger-cases five (g rightRear) .0)))
+  none-larger rightMiddle =
+      le-trans (larger-cases three (g rightMiddle) .1) (le-trans (larger-cases four (g leftRear) .0) (larger-cases five (g rightRear) .0))
   none-larger leftRear = le-trans (larger-cases four (g leftRear) .1) (larger-cases five (g rightRear) .0)
   none-larger rightRear = larger-cases five (g rightRear) .1
 
@@ -132,7 +147,8 @@ module _ (m : Float) (s t : Feet) where
     walks = w;
     most = refl;
     arrives = every-of-each (λ l. same (foot (feetAfter m s t (largest (row g))) l) (foot t l))
-        (λ l. subst T (sym (at-foot (largest (row g)) l)) (still-there m (foot s l) (foot t l) (g l) (largest (row g)) (none-larger g l) (w l .arrives)));
+        (λ l. subst T (sym (at-foot (largest (row g)) l))
+        (still-there m (foot s l) (foot t l) (g l) (largest (row g)) (none-larger g l) (w l .arrives)));
     least = λ j h.
         let o = one-largest g in
         let l = o .0 in

@@ -62,7 +62,10 @@ module _ (m : Float) (s t : Point) (r : Reach m s t) (fm : Fit m) (fs : Each Fit
       record {
         held = fs;
         point = all-single s (r .start) fs;
-        near = eighteen (apart (t .x) (s .x)) (apart (t .y) (s .y)) (apart (t .z) (s .z)) unity (apart-most (t .x) (s .x) (q .0) (p .0)) (apart-most (t .y) (s .y) (q .1) (p .1)) (apart-most (t .z) (s .z) (q .2) (p .2));
+        near =
+            eighteen (apart (t .x) (s .x)) (apart (t .y) (s .y)) (apart (t .z) (s .z)) unity
+            (apart-most (t .x) (s .x) (q .0) (p .0)) (apart-most (t .y) (s .y) (q .1) (p .1))
+            (apart-most (t .z) (s .z) (q .2) (p .2));
       }
     where
       eighteen : (a b c u : ℕ) → a ≤ 6 * u → b ≤ 6 * u → c ≤ 6 * u → a + b + c ≤ 18 * u

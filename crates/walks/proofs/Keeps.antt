@@ -1,4 +1,5 @@
--- One coordinate of a step that goes along: it does not turn away from its target, it passes it by at most 51 * 2 ^ -24 (which is below 2 ^ -18),
+-- One coordinate of a step that goes along: it does not turn away from its target, it passes it by at most 51 * 2 ^ -24 (which is below
+-- 2 ^ -18),
 -- and where it equals its target it stays. So it stays between its start and its target, but for that much.
 use mathlib.Core.Path.{_≡_, sym, ap, _∙_}
 use mathlib.Core.Logic.{_⊎_, inl, inr}
@@ -24,7 +25,8 @@ use Rattle.walks.proofs.Aim.{Fit, Aim, OnWay}
 use Rattle.walks.proofs.Descent.{reach, parts-lt, measured, near}
 
 -- ---- on parts: the move is H upwards
-pub adv : (pl nl Hp Hn : ℕ) → (pl ≡ 0) ⊎ (nl ≡ 0) → Hn ≡ 0 → rounded pl unity ≡ pl → rounded nl unity ≡ nl → pl + rounded (nl + Hn - (pl + Hp)) unity ≤ nl + rounded (pl + Hp - (nl + Hn)) unity
+pub adv : (pl nl Hp Hn : ℕ) → (pl ≡ 0) ⊎ (nl ≡ 0) → Hn ≡ 0 → rounded pl unity ≡ pl → rounded nl unity ≡ nl
+    → pl + rounded (nl + Hn - (pl + Hp)) unity ≤ nl + rounded (pl + Hp - (nl + Hn)) unity
 adv pl nl Hp Hn (inl z) h ep en =
     let a : rounded (nl + Hn - (pl + Hp)) unity ≤ nl = le-trans (rounded-mono (nl + Hn - (pl + Hp)) nl (omega arith)) (le-of-eq en) in
     fin1 pl nl (rounded (nl + Hn - (pl + Hp)) unity) (rounded (pl + Hp - (nl + Hn)) unity) z a
@@ -46,7 +48,8 @@ stay pl nl Hp Hn (inr z) h k e = ap (λ (w : ℕ). rounded w unity) (none pl nl 
     none : (pl nl Hp Hn : ℕ) → nl ≡ 0 → Hp ≡ 0 → Hn ≡ 0 → pl + Hp - (nl + Hn) ≡ pl
     none pl nl Hp Hn z h k = omega arith
 
-over : (pt nt pl nl H K A B Np Nn E δ : ℕ) → E + (nt + pl) ≡ pt + nl → K ≡ 0 → A + (nl + K) ≡ B + (pl + H) → Within Np A (16 * δ) → Within Nn B (16 * δ) → H ≤ E + 19 * δ
+over : (pt nt pl nl H K A B Np Nn E δ : ℕ) → E + (nt + pl) ≡ pt + nl → K ≡ 0 → A + (nl + K) ≡ B + (pl + H)
+    → Within Np A (16 * δ) → Within Nn B (16 * δ) → H ≤ E + 19 * δ
     → nt + Np ≤ pt + Nn + 51 * δ
 over pt nt pl nl H K A B Np Nn E δ e z a np nn h = omega arith
 
@@ -83,7 +86,8 @@ as-over ht lt Np Nn hn ln k a b h = omega arith
 as-over' : (ht lt Np Nn hn ln k : ℕ) → hn ≡ Np → ln ≡ Nn → ht + Nn ≤ lt + Np + k → ht + ln ≤ lt + hn + k
 as-over' ht lt Np Nn hn ln k a b h = omega arith
 
-pub keeps : (l t dist m : Float) (Q M : ℕ) → Single l → Units t → HasValue dist false Q unity → HasValue m false M unity → 0 < Q → M ≤ Q → M ≤ unity
+pub keeps : (l t dist m : Float) (Q M : ℕ) → Single l → Units t → HasValue dist false Q unity → HasValue m false M unity
+    → 0 < Q → M ≤ Q → M ≤ unity
     → hi t ≤ 3 * unity → lo t ≤ 3 * unity → apart t l ≤ 18 * unity → size t l < 2 * Q → Kept l t (component dist m l t)
 keeps l t dist m Q M el ut dv mv QP MQ MU ht nt near k =
     let ul = el .ok in
@@ -97,7 +101,8 @@ keeps l t dist m Q M el ut dv mv QP MQ MU ht nt near k =
     let Np = next (hi t) (lo t) (hi l) (lo l) Q M in
     let Nn = next (lo t) (hi t) (lo l) (hi l) Q M in
     let n = component dist m l t in
-    let p : Part binary32 n Np Nn = coord-part (hi l) (lo l) (hi t) (lo t) Q M QP MQ MU (r .0) (r .1) near (ks .0) (ks .1) l t dist m ul ut dv mv in
+    let p : Part binary32 n Np Nn =
+    coord-part (hi l) (lo l) (hi t) (lo t) Q M QP MQ MU (r .0) (r .1) near (ks .0) (ks .1) l t dist m ul ut dv mv in
     let hn = hi-is n Np Nn p in
     let ln = lo-is n Np Nn p in
     let E = less-32 a b unity unity-pos near in
@@ -107,16 +112,22 @@ keeps l t dist m Q M el ut dv mv QP MQ MU ht nt near k =
       up = λ h.
           let g : b ≤ a = order (hi l) (lo t) (lo l) (hi t) h in
           let z = move-zero (diff b a) Q M QP (diff-zero b a g) in
-          let mu = move-up (a - b) (diff a b) (rounded (diff a b) Q) Hp M Q unity δ QP unity-pos MQ MU (moves a b Q M QP MU (E .0) (ks .0)) in (
+          let mu =
+          move-up (a - b) (diff a b) (rounded (diff a b) Q) Hp M Q unity δ QP unity-pos MQ MU (moves a b Q M QP MU (E .0) (ks .0)) in (
             as-below (hi l) (lo l) Np Nn (hi n) (lo n) hn ln (adv (hi l) (lo l) Hp Hn side z (el .hi-exact) (el .lo-exact)),
-            as-over (hi t) (lo t) Np Nn (hi n) (lo n) (51 * δ) hn ln (over (hi t) (lo t) (hi l) (lo l) Hp Hn (hi l + Hp - (lo l + Hn)) (lo l + Hn - (hi l + Hp)) Np Nn (a - b) δ (whole a b g) z (trunc (hi l + Hp) (lo l + Hn)) wp wn mu),
+            as-over (hi t) (lo t) Np Nn (hi n) (lo n) (51 * δ) hn ln
+                (over (hi t) (lo t) (hi l) (lo l) Hp Hn (hi l + Hp - (lo l + Hn)) (lo l + Hn - (hi l + Hp)) Np Nn (a - b) δ
+                (whole a b g) z (trunc (hi l + Hp) (lo l + Hn)) wp wn mu),
           );
       down = λ h.
           let g : a ≤ b = down-order (hi t) (lo l) (lo t) (hi l) h in
           let z = move-zero (diff a b) Q M QP (diff-zero a b g) in
-          let mu = move-up (b - a) (diff b a) (rounded (diff b a) Q) Hn M Q unity δ QP unity-pos MQ MU (moves b a Q M QP MU (E .1) (ks .1)) in (
+          let mu =
+          move-up (b - a) (diff b a) (rounded (diff b a) Q) Hn M Q unity δ QP unity-pos MQ MU (moves b a Q M QP MU (E .1) (ks .1)) in (
             as-above (hi l) (lo l) Np Nn (hi n) (lo n) hn ln (adv (lo l) (hi l) Hn Hp (flip side) z (el .lo-exact) (el .hi-exact)),
-            as-over' (hi t) (lo t) Np Nn (hi n) (lo n) (51 * δ) hn ln (over (lo t) (hi t) (lo l) (hi l) Hn Hp (lo l + Hn - (hi l + Hp)) (hi l + Hp - (lo l + Hn)) Nn Np (b - a) δ (whole b a g) z (trunc (lo l + Hn) (hi l + Hp)) wn wp mu),
+            as-over' (hi t) (lo t) Np Nn (hi n) (lo n) (51 * δ) hn ln
+                (over (lo t) (hi t) (lo l) (hi l) Hn Hp (lo l + Hn - (hi l + Hp)) (hi l + Hp - (lo l + Hn)) Nn Np (b - a) δ
+                (whole b a g) z (trunc (lo l + Hn) (hi l + Hp)) wn wp mu),
           );
       rest = λ h h'.
           let g : b ≤ a = order (hi l) (lo t) (lo l) (hi t) h in
@@ -187,15 +198,24 @@ module _ (m : Float) (l t : Point) (aim : Aim m t) (way : OnWay l t) (far : T (n
       let QP : 0 < w .Q = lt-of-le-of-lt zero-le (w .above) in
       let MQ = le-of-lt (w .above) in
       record {
-        x = keeps (l .x) (t .x) d m (w .Q) (mag m) (way .point .0) (aim .target .0 .ok) (w .value) (aim .move) QP MQ (aim .to) (aim .near .0 .0) (aim .near .0 .1) (n .0) (w .kx);
-        y = keeps (l .y) (t .y) d m (w .Q) (mag m) (way .point .1) (aim .target .1 .ok) (w .value) (aim .move) QP MQ (aim .to) (aim .near .1 .0) (aim .near .1 .1) (n .1) (w .ky);
-        z = keeps (l .z) (t .z) d m (w .Q) (mag m) (way .point .2) (aim .target .2 .ok) (w .value) (aim .move) QP MQ (aim .to) (aim .near .2 .0) (aim .near .2 .1) (n .2) (w .kz);
+        x =
+            keeps (l .x) (t .x) d m (w .Q) (mag m) (way .point .0) (aim .target .0 .ok) (w .value) (aim .move) QP MQ
+            (aim .to) (aim .near .0 .0) (aim .near .0 .1) (n .0) (w .kx);
+        y =
+            keeps (l .y) (t .y) d m (w .Q) (mag m) (way .point .1) (aim .target .1 .ok) (w .value) (aim .move) QP MQ
+            (aim .to) (aim .near .1 .0) (aim .near .1 .1) (n .1) (w .ky);
+        z =
+            keeps (l .z) (t .z) d m (w .Q) (mag m) (way .point .2) (aim .target .2 .ok) (w .value) (aim .move) QP MQ
+            (aim .to) (aim .near .2 .0) (aim .near .2 .1) (n .2) (w .kz);
       }
 
 -- the new point's coordinates are f32s again
 single-component : (d m l t : Float) → Units (component d m l t) → Single (component d m l t)
 unfolding component
-single-component d m l t u = single (component d m l t) (part-finite binary32 (component d m l t) (hi (component d m l t)) (lo (component d m l t)) u) (add-fits binary32 l (mul binary32 (div binary32 (sub binary32 t l) d) m))
+single-component d m l t u =
+    single (component d m l t)
+    (part-finite binary32 (component d m l t) (hi (component d m l t)) (lo (component d m l t)) u)
+    (add-fits binary32 l (mul binary32 (div binary32 (sub binary32 t l) d) m))
 
 pub along-held : (d m : Float) (l t : Point) → Each Fit (along d m l t)
 unfolding along component
@@ -206,4 +226,5 @@ along-held d m l t = (held (l .x) (t .x), held (l .y) (t .y), held (l .z) (t .z)
 
 pub single-along : (d m : Float) (l t : Point) → Each Units (along d m l t) → Each Single (along d m l t)
 unfolding along
-single-along d m l t u = (single-component d m (l .x) (t .x) (u .0), single-component d m (l .y) (t .y) (u .1), single-component d m (l .z) (t .z) (u .2))
+single-along d m l t u =
+    (single-component d m (l .x) (t .x) (u .0), single-component d m (l .y) (t .y) (u .1), single-component d m (l .z) (t .z) (u .2))

@@ -4,6 +4,7 @@ mod Coordinate
 mod Neighbours
 mod Far
 pub mod Aim
+mod Fits
 mod Descent
 pub mod Keeps
 mod Passing
@@ -11,6 +12,7 @@ pub mod Nearer
 pub mod Steps
 pub mod Given
 pub mod Loop
+mod OnePass
 pub mod Door
 pub mod Feet
 pub mod Table

@@ -52,9 +52,11 @@ module _ (m : Float) (s t : Point) where
   unfolding pointAfter pointOf
   next-point l p k e h = ap (pointAfter m s t) (add-one k) ∙ ap (λ (q : Point). pointOf (moveTowards q t m)) e ∙ ap pointOf h
 
-  next-least : (l p : Point) (k : ℕ) → pointAfter m s t k ≡ l → moveTowards l t m ≡ Moved p → ((j : ℕ) → j < k → T (not (same (pointAfter m s t j) t)))
+  next-least : (l p : Point) (k : ℕ) → pointAfter m s t k ≡ l → moveTowards l t m ≡ Moved p
+      → ((j : ℕ) → j < k → T (not (same (pointAfter m s t j) t)))
       → (j : ℕ) → j < k + 1 → T (not (same (pointAfter m s t j) t))
-  next-least l p k e h f j g = ⊎-elim (λ q. subst (λ (n : ℕ). T (not (same (pointAfter m s t n) t))) (sym q) here) (f j) (eq-or-lt-of-le (at-most g))
+  next-least l p k e h f j g =
+      ⊎-elim (λ q. subst (λ (n : ℕ). T (not (same (pointAfter m s t n) t))) (sym q) here) (f j) (eq-or-lt-of-le (at-most g))
     where
       at-most : {i n : ℕ} → i < n + 1 → i ≤ n
       at-most {i} {n} g = omega arith
@@ -62,7 +64,8 @@ module _ (m : Float) (s t : Point) where
       here : T (not (same (pointAfter m s t k) t))
       here = subst (λ (q : Point). T (not (same q t))) (sym e) (subst (λ (b : Bool). T (not b)) (sym (was-elsewhere l t m p h)) tt)
 
-  next-left : (k M a b b' : ℕ) → 0 < M → b' < b → (2 * b' + M ≤ 2 * b) ⊎ (b' ≡ 0) → (k * M + 2 * b ≤ 2 * a) ⊎ ((b ≡ 0) × (k * M ≤ 2 * a + M))
+  next-left : (k M a b b' : ℕ) → 0 < M → b' < b → (2 * b' + M ≤ 2 * b) ⊎ (b' ≡ 0)
+      → (k * M + 2 * b ≤ 2 * a) ⊎ ((b ≡ 0) × (k * M ≤ 2 * a + M))
       → ((k + 1) * M + 2 * b' ≤ 2 * a) ⊎ ((b' ≡ 0) × ((k + 1) * M ≤ 2 * a + M))
   next-left k M a b b' p l f (inr h) = let z = h .0 in absurd (omega arith)
   next-left k M a b b' p l (inl f) (inl h) = inl (omega arith)
@@ -77,7 +80,9 @@ module _ (m : Float) (s t : Point) where
         way = w .way;
         here = next-point l p k (g .here) h;
         least = next-least l p k (g .here) h (g .least);
-        left = next-left k (mag m) (spread s t) (spread l t) (spread p t) (lt-of-lt-of-le (pow-pos 137) (g .aim .from)) (w .less) (w .falls) (g .left);
+        left =
+            next-left k (mag m) (spread s t) (spread l t) (spread p t) (lt-of-lt-of-le (pow-pos 137) (g .aim .from))
+            (w .less) (w .falls) (g .left);
       }
 
   pub going-nearer : (l p : Point) (k : ℕ) → Going m s t l k → moveTowards l t m ≡ Moved p → spread p t < spread l t
@@ -86,7 +91,8 @@ module _ (m : Float) (s t : Point) where
   bounded : (l : Point) (k : ℕ) → Going m s t l k → k * mag m ≤ 2 * spread s t + mag m
   bounded l k g = by-left (g .left)
     where
-      by-left : (k * mag m + 2 * spread l t ≤ 2 * spread s t) ⊎ ((spread l t ≡ 0) × (k * mag m ≤ 2 * spread s t + mag m)) → k * mag m ≤ 2 * spread s t + mag m
+      by-left : (k * mag m + 2 * spread l t ≤ 2 * spread s t) ⊎ ((spread l t ≡ 0) × (k * mag m ≤ 2 * spread s t + mag m))
+          → k * mag m ≤ 2 * spread s t + mag m
       by-left (inl h) = below (k * mag m) (spread l t) (spread s t) (mag m) h
         where
           below : (a b c d : ℕ) → a + 2 * b ≤ 2 * c → a ≤ 2 * c + d
@@ -101,7 +107,9 @@ module _ (m : Float) (s t : Point) where
   }
 
   pub going-few : (l : Point) (k : ℕ) → Going m s t l k → k ≤ 147457
-  going-few l k g = most-steps k (mag m) (spread s t) 147456 (2 ^ 137) (lt-of-lt-of-le (pow-pos 137) (g .aim .from)) (g .aim .from) (twice (spread s t) (18 * unity) (g .start .near)) (bounded l k g)
+  going-few l k g =
+      most-steps k (mag m) (spread s t) 147456 (2 ^ 137) (lt-of-lt-of-le (pow-pos 137) (g .aim .from)) (g .aim .from)
+      (twice (spread s t) (18 * unity) (g .start .near)) (bounded l k g)
     where
       twice : (a b : ℕ) → a ≤ b → 2 * a ≤ 2 * b
       twice a b h = omega arith

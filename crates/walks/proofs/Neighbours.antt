@@ -1,9 +1,12 @@
--- Two f32s that are close, in units: the larger is above the smaller by one part in 2 ^ 24 at least, and the difference of two that are near each other is
+-- Two f32s that are close, in units: the larger is above the smaller by one part in 2 ^ 24 at least, and the difference of two that are
+-- near each other is
 -- an f32 itself. And a quotient by more, times less, is no more than what was divided.
 use mathlib.Core.Path.{_≡_, refl, sym, ap, ap₂, _∙_, subst}
 use mathlib.Core.Logic.{inl, inr}
 use Prim.Native.Nat.{ℕ, zero, suc, _+_, _-_, _*_, _/_, _^_, _≤_, _<_, zero-le}
-use native.Mathlib.Nat.{add-mul, mul-one, eq-zero-or-pos, eq-or-lt-of-le, lt-of-not-le, not-le-of-lt, le-trans, le-of-eq, lt-of-le-of-lt, lt-of-lt-of-le, mul-le-mul, mul-le-mul-right, mul-pos, mul-assoc, pow-succ', le-div-iff-mul-le, lt-of-mul-lt-mul-right, mul-lt-mul-of-pos-right}
+use native.Mathlib.Nat.{add-mul, mul-one, eq-zero-or-pos, eq-or-lt-of-le, lt-of-not-le, not-le-of-lt, le-trans, le-of-eq, lt-of-le-of-lt}
+use native.Mathlib.Nat.{lt-of-lt-of-le, mul-le-mul, mul-le-mul-right, mul-pos, mul-assoc}
+use native.Mathlib.Nat.{pow-succ', le-div-iff-mul-le, lt-of-mul-lt-mul-right, mul-lt-mul-of-pos-right}
 use native.Mathlib.Omega.{arith}
 use lib.Dec.{lit<, lit≤}
 use lib.Pow.{pow-add, pow-mono}
@@ -63,7 +66,8 @@ small-below : (w v : ℕ) → v < w → w < 16777216 → 16777216 * v + w ≤ 16
 small-below w v h g = omega arith
 
 pub next-below : (w v : ℕ) → Digits w → Digits v → v < w → 2 ^ 24 * v + w ≤ 2 ^ 24 * w
-next-below w v dw dv h = elim (total (2 ^ 23) w) [ inr s ↦ small-below w v h (lt-of-le-of-lt s (lit< tt)) | inl big ↦ at (size w - 24) (placed w big) ]
+next-below w v dw dv h =
+    elim (total (2 ^ 23) w) [ inr s ↦ small-below w v h (lt-of-le-of-lt s (lit< tt)) | inl big ↦ at (size w - 24) (placed w big) ]
   where
     lower : (k : ℕ) → Placed w k → v < 8388608 * 2 ^ k → 16777216 * v + w ≤ 16777216 * w
     lower zero p l = small-below w v h (p .high)
@@ -90,9 +94,12 @@ next-below w v dw dv h = elim (total (2 ^ 23) w) [ inr s ↦ small-below w v h (
 
     at : (k : ℕ) → Placed w k → 16777216 * v + w ≤ 16777216 * w
     at k p = elim (total (8388608 * 2 ^ k) v) [
-      | inl t ↦ let n = multiple v k dv t in let o = multiple w k dw (p .low) in by-multiples (o .0) (n .0) (2 ^ k) w v (o .1) (n .1) h (p .high)
+      | inl t ↦ let n =
+          multiple v k dv t in let o = multiple w k dw (p .low) in by-multiples (o .0) (n .0) (2 ^ k) w v (o .1) (n .1) h (p .high)
       | inr t ↦ elim (eq-or-lt-of-le t) [
-        | inl e ↦ let n = multiple v k dv (le-of-eq (sym e)) in let o = multiple w k dw (p .low) in by-multiples (o .0) (n .0) (2 ^ k) w v (o .1) (n .1) h (p .high)
+        | inl e ↦ let n =
+            multiple v k dv (le-of-eq (sym e)) in let o = multiple w k dw (p .low) in by-multiples (o .0) (n .0)
+            (2 ^ k) w v (o .1) (n .1) h (p .high)
         | inr l ↦ lower k p l
       ]
     ]
@@ -135,7 +142,10 @@ module _ (D Q M : ℕ) (exact : Exact D) (dq : Digits Q) (dm : Digits M) (less :
   G = rounded D Q
 
   from-product : G * M ≤ D * unity → rounded (G * M) (unity * unity) ≤ D
-  from-product h = le-trans (grid-mono binary32 (G * M) (unity * unity) D unity (mul-pos unity-pos unity-pos) unity-pos (no-more D G M unity h)) (le-of-eq exact)
+  from-product h =
+      le-trans
+      (grid-mono binary32 (G * M) (unity * unity) D unity (mul-pos unity-pos unity-pos) unity-pos (no-more D G M unity h))
+      (le-of-eq exact)
 
   in-small : D * unity < 2 ^ 24 * Q → rounded (G * M) (unity * unity) ≤ D
   in-small h = elim (total (2 ^ 24) D) [
@@ -143,11 +153,15 @@ module _ (D Q M : ℕ) (exact : Exact D) (dq : Digits Q) (dm : Digits M) (less :
     | inr s ↦ elim (eq-or-lt-of-le s) [
       | inl e ↦ from-product (mul-le-mul (le-trans (grid-le binary32 D Q 0 positive h) (le-of-eq (sym e))) one)
       | inr l ↦ elim (eq-zero-or-pos D) [
-        | inl z ↦ from-product (mul-le-mul (le-trans (le-of-eq (ap (λ (d : ℕ). rounded d Q) z ∙ grid-zero binary32 Q positive)) zero-le) one)
+        | inl z ↦ from-product
+            (mul-le-mul (le-trans (le-of-eq (ap (λ (d : ℕ). rounded d Q) z ∙ grid-zero binary32 Q positive)) zero-le) one)
         | inr d ↦
             let a = small D G M Q unity d unity-pos positive less one (grid-abs binary32 D Q 0 positive h .0) in
-            let b : G * M * unity < 2 ^ 24 * (unity * unity) = lt-of-lt-of-le (mul-lt-mul-of-pos-right (small-fits D (G * M) unity unity-pos l a) unity-pos) (le-of-eq (mul-assoc (2 ^ 24) unity unity)) in
-            small-back D (rounded (G * M) (unity * unity)) (G * M) unity unity-pos a (grid-abs binary32 (G * M) (unity * unity) 0 (mul-pos unity-pos unity-pos) b .0)
+            let b : G * M * unity < 2 ^ 24 * (unity * unity) =
+            lt-of-lt-of-le (mul-lt-mul-of-pos-right (small-fits D (G * M) unity unity-pos l a) unity-pos)
+            (le-of-eq (mul-assoc (2 ^ 24) unity unity)) in
+            small-back D (rounded (G * M) (unity * unity)) (G * M) unity unity-pos a
+            (grid-abs binary32 (G * M) (unity * unity) 0 (mul-pos unity-pos unity-pos) b .0)
       ]
     ]
   ]
@@ -213,8 +227,10 @@ close-exact w v dw dv top h = elim (total (2 ^ 24) w) [
         let n = multiple w j dw (low (2 ^ suc j) (2 ^ j) e (p .low)) in
         let o = multiple v j dv (also (2 ^ suc j) (2 ^ j) e (p .low) h) in
         let g : gap w v ≡ gap (n .0) (o .0) * 2 ^ j = ap₂ gap (n .1) (o .1) ∙ gap-times (n .0) (o .0) (2 ^ j) in
-        let l : gap (n .0) (o .0) < 2 ^ 24 = lt-of-mul-lt-mul-right (2 ^ j) (lt-of-le-of-lt (le-of-eq (sym g)) (short (2 ^ suc j) (2 ^ j) e (p .high) h)) in
-        let f : gap (n .0) (o .0) * 2 ^ j < overflow binary32 = lt-of-le-of-lt (le-of-eq (sym g)) (lt-of-lt-of-le (quarter h top) (lit≤ tt)) in
+        let l : gap (n .0) (o .0) < 2 ^ 24 =
+        lt-of-mul-lt-mul-right (2 ^ j) (lt-of-le-of-lt (le-of-eq (sym g)) (short (2 ^ suc j) (2 ^ j) e (p .high) h)) in
+        let f : gap (n .0) (o .0) * 2 ^ j < overflow binary32 =
+        lt-of-le-of-lt (le-of-eq (sym g)) (lt-of-lt-of-le (quarter h top) (lit≤ tt)) in
         subst Exact (sym g) (grid-exact binary32 (gap (n .0) (o .0)) j l f)
       where
         low : (x y : ℕ) → x ≡ 2 * y → 8388608 * x ≤ w → 8388608 * y ≤ w

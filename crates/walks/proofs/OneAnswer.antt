@@ -18,8 +18,10 @@ use Rattle.walks.specs.declared.Walked.{Walked}
 use Rattle.walks.specs.declared.Walked.the-variants.{Count, Refused}
 
 -- two numbers at which a test holds, and below which it does not, are one
-least-is-one : (there : ℕ → Bool) (k j : ℕ) → T (there k) → ((i : ℕ) → i < k → T (not (there i))) → T (there j) → ((i : ℕ) → i < j → T (not (there i))) → k ≡ j
-least-is-one there k j a f b g = le-antisymm (not-above k j (λ h. T-not (there j) (f j h) b)) (not-above j k (λ h. T-not (there k) (g k h) a))
+least-is-one : (there : ℕ → Bool) (k j : ℕ) → T (there k) → ((i : ℕ) → i < k → T (not (there i))) → T (there j)
+    → ((i : ℕ) → i < j → T (not (there i))) → k ≡ j
+least-is-one there k j a f b g =
+    le-antisymm (not-above k j (λ h. T-not (there j) (f j h) b)) (not-above j k (λ h. T-not (there k) (g k h) a))
   where
     not-above : (i n : ℕ) → (n < i → ⊥) → i ≤ n
     not-above i n h = omega arith
@@ -48,8 +50,11 @@ one-told zero P one u v a b = a .1 ∙ ap (λ (k : ℕ). given (k ∷ []) []) (o
 one-told (suc n) P one u v a b = a .1 ∙ refuses n (given (a .0 ∷ []) []) ∙ sym (b .1 ∙ refuses n (given (b .0 ∷ []) []))
 
 module _ (m : Float) (a b : Walked) where
-  pub walk-settled : (s t : Point) → Counts (walkRefusal m s t) (Walk m s t) (told a) → Counts (walkRefusal m s t) (Walk m s t) (told b) → a ≡ b
+  pub walk-settled : (s t : Point) → Counts (walkRefusal m s t) (Walk m s t) (told a)
+      → Counts (walkRefusal m s t) (Walk m s t) (told b) → a ≡ b
   walk-settled s t x y = told-loses-nothing a b (one-told (walkRefusal m s t) (Walk m s t) (one-count m s t) (told a) (told b) x y)
 
-  pub walk-feet-settled : (s t : Feet) → Counts (walkFeetRefusal m s t) (WalkFeet m s t) (told a) → Counts (walkFeetRefusal m s t) (WalkFeet m s t) (told b) → a ≡ b
-  walk-feet-settled s t x y = told-loses-nothing a b (one-told (walkFeetRefusal m s t) (WalkFeet m s t) (one-count-of-feet m s t) (told a) (told b) x y)
+  pub walk-feet-settled : (s t : Feet) → Counts (walkFeetRefusal m s t) (WalkFeet m s t) (told a)
+      → Counts (walkFeetRefusal m s t) (WalkFeet m s t) (told b) → a ≡ b
+  walk-feet-settled s t x y =
+      told-loses-nothing a b (one-told (walkFeetRefusal m s t) (WalkFeet m s t) (one-count-of-feet m s t) (told a) (told b) x y)

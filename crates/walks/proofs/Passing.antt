@@ -1,4 +1,5 @@
--- On parts: a coordinate passes its target by no more than it was away from it. Where the difference is an f32, the step does not pass the target at all;
+-- On parts: a coordinate passes its target by no more than it was away from it. Where the difference is an f32, the step does not pass
+-- the target at all;
 -- where it is not, the difference is at least a quarter of the target, and what rounding adds is far less.
 use mathlib.Core.Path.{_≡_, sym, ap, _∙_, subst}
 use mathlib.Core.Logic.{_⊎_, inl, inr}
@@ -66,13 +67,16 @@ module _ (pt nt pl nl : ℕ) (top : pt + nt ≤ 2 ^ 155) (dt : Digits (pt + nt))
 
 -- ---- the new point Np - Nn passes the target by the difference at most
 -- A is what the point is before rounding, where it is not below zero; B where it is
-crude-above : (pt nt H e A Np : ℕ) → A + nt + e ≡ pt + H → 1024 * Np ≤ 1025 * A + 512 → 1024 * H ≤ 1025 * e + 512 → pt + nt ≤ 4 * e → 16777216 ≤ e → nt + Np ≤ pt + e
+crude-above : (pt nt H e A Np : ℕ) → A + nt + e ≡ pt + H → 1024 * Np ≤ 1025 * A + 512 → 1024 * H ≤ 1025 * e + 512
+    → pt + nt ≤ 4 * e → 16777216 ≤ e → nt + Np ≤ pt + e
 crude-above pt nt H e A Np a p h w b = omega arith
 
-crude-below : (pt nt H e B Nn : ℕ) → B + pt + H ≡ nt + e → 1023 * B ≤ 1024 * Nn + 512 → 1024 * H ≤ 1025 * e + 512 → pt + nt ≤ 4 * e → 16777216 ≤ e → nt ≤ pt + Nn + e
+crude-below : (pt nt H e B Nn : ℕ) → B + pt + H ≡ nt + e → 1023 * B ≤ 1024 * Nn + 512 → 1024 * H ≤ 1025 * e + 512
+    → pt + nt ≤ 4 * e → 16777216 ≤ e → nt ≤ pt + Nn + e
 crude-below pt nt H e B Nn a p h w b = omega arith
 
-crude : (pt nt pl nl H K D e Np Nn : ℕ) → e + (nt + pl) ≡ pt + nl → K ≡ 0 → Summed Np (pl + H - (nl + K)) → Summed Nn (nl + K - (pl + H)) → Summed D e → H ≤ D
+crude : (pt nt pl nl H K D e Np Nn : ℕ) → e + (nt + pl) ≡ pt + nl → K ≡ 0 → Summed Np (pl + H - (nl + K))
+    → Summed Nn (nl + K - (pl + H)) → Summed D e → H ≤ D
     → pt + nt ≤ 4 * e → 16777216 ≤ e → nt + Np ≤ pt + Nn + e
 crude pt nt pl nl H K D e Np Nn x k p n d h w b =
     let short : 1024 * H ≤ 1025 * e + 512 = through H D (1025 * e + 512) h (d .up) in
@@ -162,12 +166,14 @@ module _ (pt nt pl nl Q M : ℕ) (less : M < Q) (one : M ≤ unity) (ts : (pt �
       by-size : 2 ^ 24 ≤ pt + nl - (nt + pl) → nt + Np ≤ pt + Nn + (pt + nl - (nt + pl))
       by-size b = elim (exact-or-large pt nt pl nl top dt dl up ts ls) [
         | inl e ↦ weaken (not-past e)
-        | inr w ↦ crude pt nt pl nl H K D (pt + nl - (nt + pl)) Np Nn (rest (pt + nl) (nt + pl) up) still (summed (pl + H - (nl + K))) (summed (nl + K - (pl + H))) (summed (pt + nl - (nt + pl))) no-more w b
+        | inr w ↦ crude pt nt pl nl H K D (pt + nl - (nt + pl)) Np Nn (rest (pt + nl) (nt + pl) up) still
+            (summed (pl + H - (nl + K))) (summed (nl + K - (pl + H))) (summed (pt + nl - (nt + pl))) no-more w b
       ]
 
   -- so it is no farther
   pub no-farther : gap (pt + Nn) (nt + Np) ≤ gap (pt + nl) (nt + pl)
   no-farther = close pt nt pl nl Np Nn up (adv pl nl H K ls still epl enl) past-by-less
     where
-      close : (pt nt pl nl a b : ℕ) → nt + pl ≤ pt + nl → pl + b ≤ nl + a → nt + a ≤ pt + b + (pt + nl - (nt + pl)) → gap (pt + b) (nt + a) ≤ gap (pt + nl) (nt + pl)
+      close : (pt nt pl nl a b : ℕ) → nt + pl ≤ pt + nl → pl + b ≤ nl + a → nt + a ≤ pt + b + (pt + nl - (nt + pl))
+          → gap (pt + b) (nt + a) ≤ gap (pt + nl) (nt + pl)
       close pt nt pl nl a b u v w = omega arith

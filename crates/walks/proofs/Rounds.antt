@@ -2,7 +2,7 @@
 use mathlib.Core.Path.{_≡_, refl, sym, ap, _∙_, subst, fun-ext}
 use mathlib.Core.Bool.{Bool, true, false, false≢true}
 use mathlib.Core.Logic.{⊎-elim}
-use Prim.Native.Nat.{ℕ, suc, _+_, _≤_, _<_, zero-le}
+use Prim.Native.Nat.{ℕ, _+_, _≤_, _<_, zero-le}
 use native.Mathlib.Nat.{eq-or-lt-of-le, lt-of-lt-of-le}
 use native.Mathlib.Numerals.{add-one}
 use native.Mathlib.Omega.{arith}
@@ -41,7 +41,12 @@ module _ (m : Float) (s t : Feet) where
 
     -- where not all have arrived, a round is to come
     one-more : Arrived l ≡ false → c < w .total
-    one-more e = ⊎-elim (λ h. absurd (false≢true (sym e ∙ arrival ∙ is-true (allArrived m s t c) (subst (λ (k : ℕ). T (allArrived m s t k)) (sym h) (w .walk .arrives))))) (λ h. h) (eq-or-lt-of-le (w .within))
+    one-more e =
+        ⊎-elim
+        (λ h. absurd
+        (false≢true
+        (sym e ∙ arrival ∙ is-true (allArrived m s t c) (subst (λ (k : ℕ). T (allArrived m s t k)) (sym h) (w .walk .arrives)))))
+        (λ h. h) (eq-or-lt-of-le (w .within))
 
     pub walking-few : Arrived l ≡ false → c < 147457
     walking-few e = lt-of-lt-of-le (one-more e) (w .few)
@@ -71,7 +76,9 @@ module _ (m : Float) (s t : Feet) where
         → rf ≡ pointOf (moveTowards (foot l rightFront) (foot t rightFront) m)
         → rm ≡ pointOf (moveTowards (foot l rightMiddle) (foot t rightMiddle) m)
         → rr ≡ pointOf (moveTowards (foot l rightRear) (foot t rightRear) m)
-        → Walking (record { «left_front» = lf; «left_middle» = lm; «left_rear» = lr; «right_front» = rf; «right_middle» = rm; «right_rear» = rr }) (c + 1)
+        → Walking
+        (record { «left_front» = lf; «left_middle» = lm; «left_rear» = lr; «right_front» = rf; «right_middle» = rm; «right_rear» = rr })
+        (c + 1)
     walking-on e lf lm lr rf rm rr elf elm elr erf erm err = on e p steps
       where
         p : Feet

@@ -1,4 +1,5 @@
--- One step of a walk: it stays on the way, S falls where it moved, and each coordinate stays between its start and its target and comes no farther from it.
+-- One step of a walk: it stays on the way, S falls where it moved, and each coordinate stays between its start and its target and comes
+-- no farther from it.
 use mathlib.Core.Path.{_≡_, refl, sym, ap, _∙_, subst}
 use mathlib.Core.Logic.{_⊎_, inl, inr}
 use Prim.Native.Nat.{ℕ, zero, suc, _+_, _*_, _≤_, _<_, zero-le}
@@ -41,7 +42,8 @@ pub same-of-spread : (l t : Point) → Each Single l → Each Single t → sprea
 unfolding same
 same-of-spread l t sl st e =
     let z = parts (apart (t .x) (l .x)) (apart (t .y) (l .y)) (apart (t .z) (l .z)) e in
-    let level : (x y : Float) → Single x → Single y → apart y x ≡ 0 → T (eq x y) = λ x y a b h. eq-of-apart x y (a .ok) (b .ok) (apart-comm x y ∙ h) in
+    let level : (x y : Float) → Single x → Single y → apart y x ≡ 0 → T (eq x y) =
+    λ x y a b h. eq-of-apart x y (a .ok) (b .ok) (apart-comm x y ∙ h) in
     and-i (eq (l .x) (t .x) && eq (l .y) (t .y)) (eq (l .z) (t .z))
     (and-i (eq (l .x) (t .x)) (eq (l .y) (t .y)) (level (l .x) (t .x) (sl .0) (st .0) (z .0)) (level (l .y) (t .y) (sl .1) (st .1) (z .1)))
     (level (l .z) (t .z) (sl .2) (st .2) (z .2))
@@ -97,7 +99,12 @@ module _ (m : Float) (l t : Point) (aim : Aim m t) (way : OnWay l t) where
       let k = all-kept m l t aim way far in
       let p = along (distance l t) m l t in
       record {
-        way = record { held = along-held (distance l t) m l t; point = single-along (distance l t) m l t (w .units); near = still (spread l t) (spread p t) (mag m) (18 * unity) (w .lowered) (way .near) };
+        way =
+            record {
+              held = along-held (distance l t) m l t;
+              point = single-along (distance l t) m l t (w .units);
+              near = still (spread l t) (spread p t) (mag m) (18 * unity) (w .lowered) (way .near);
+            };
         less = fewer (spread l t) (spread p t) (mag m) (lt-of-lt-of-le (pow-pos 137) (aim .from)) (w .lowered);
         falls = inl (w .lowered);
         between = λ s b. record {
@@ -124,7 +131,8 @@ module _ (m : Float) (l t : Point) (aim : Aim m t) (way : OnWay l t) where
       by-place : (b : Bool) → same l t ≡ b → Moves m l t p
       by-place true e = absurd (let q : Arrived t ≡ Moved p = sym (stands l t m e) ∙ h in let z : _≡_ {A = ℕ} 0 1 = cc in omega arith)
       by-place false e =
-          let q : nearer (distance l t) l t m ≡ p = (let r : Moved (nearer (distance l t) l t m) ≡ Moved p = sym (moves l t m e) ∙ h in cc) in
+          let q : nearer (distance l t) l t m ≡ p =
+          (let r : Moved (nearer (distance l t) l t m) ≡ Moved p = sym (moves l t m e) ∙ h in cc) in
           subst (Moves m l t) q (by-distance e (le (distance l t) m) refl)
 
   -- whatever a step does: it stays on the way, and between
@@ -141,11 +149,18 @@ module _ (m : Float) (l t : Point) (aim : Aim m t) (way : OnWay l t) where
       by-answer (Moved p) e =
           let w = moved p e in
           let q : p ≡ pointOf (moveTowards l t m) = sym (ap pointOf e) in
-          record { on = subst (λ (r : Point). OnWay r t) q (w .way); between = λ s b. subst (Between s t) q (w .between s b); no-farther = subst (NoFarther l t) q (w .no-farther) }
+          record {
+            on = subst (λ (r : Point). OnWay r t) q (w .way);
+            between = λ s b. subst (Between s t) q (w .between s b);
+            no-farther = subst (NoFarther l t) q (w .no-farther);
+          }
       by-answer (Arrived p) e =
           let q : t ≡ pointOf (moveTowards l t m) = sym (ap pointOf e ∙ arrived-at-target l t m p e) in
           record {
-            on = subst (λ (r : Point). OnWay r t) q (record { held = aim .held; point = aim .target; near = subst (λ (a : ℕ). a ≤ 18 * unity) (sym (spread-self t)) zero-le });
-            between = λ s b. subst (Between s t) q (record { x = at-end (s .x) (t .x); y = at-end (s .y) (t .y); z = at-end (s .z) (t .z) });
+            on =
+                subst (λ (r : Point). OnWay r t) q
+                (record { held = aim .held; point = aim .target; near = subst (λ (a : ℕ). a ≤ 18 * unity) (sym (spread-self t)) zero-le });
+            between =
+                λ s b. subst (Between s t) q (record { x = at-end (s .x) (t .x); y = at-end (s .y) (t .y); z = at-end (s .z) (t .z) });
             no-farther = subst (NoFarther l t) q (at-target l t);
           }

@@ -1,4 +1,5 @@
--- Every point of a walk: it is made of f32s; each coordinate lies between its start and its target, but for 51 * 2 ^ -24, which is below 2 ^ -18; no step takes
+-- Every point of a walk: it is made of f32s; each coordinate lies between its start and its target, but for 51 * 2 ^ -24, which is
+-- below 2 ^ -18; no step takes
 -- a coordinate farther from its target; and one that equals its target stays so.
 -- And for a printer: each step before the count moves to the next point, and the one after it stands.
 use mathlib.Core.Path.{_≡_, sym, ap, _∙_}
@@ -40,7 +41,8 @@ module _ (m : Float) (s t : Point) where
 
     -- since it comes no farther, a coordinate c that equals its target stays so
     module _ (c : Point → Float) (of : (p : Point) → Each Single p → Single (c p))
-        (closer : (k : ℕ) → apart (c t) (c (pointAfter m s t (suc k))) ≤ apart (c t) (c (pointAfter m s t k))) (level : T (eq (c s) (c t))) where
+        (closer : (k : ℕ) → apart (c t) (c (pointAfter m s t (suc k))) ≤ apart (c t) (c (pointAfter m s t k)))
+        (level : T (eq (c s) (c t))) where
       nothing-left : (k : ℕ) → apart (c t) (c (pointAfter m s t k)) ≡ 0
       unfolding pointAfter
       nothing-left zero = apart-comm (c t) (c s) ∙ apart-of-eq (c s) (c t) (of s (start .point) .ok) (of t (aim .target) .ok) level
@@ -50,7 +52,9 @@ module _ (m : Float) (s t : Point) where
           none {a} {b} h e = omega arith
 
       stays-level : (k : ℕ) → T (eq (c (pointAfter m s t k)) (c t))
-      stays-level k = eq-of-apart (c (pointAfter m s t k)) (c t) (of (pointAfter m s t k) (on-way k .point) .ok) (of t (aim .target) .ok) (apart-comm (c (pointAfter m s t k)) (c t) ∙ nothing-left k)
+      stays-level k =
+          eq-of-apart (c (pointAfter m s t k)) (c t) (of (pointAfter m s t k) (on-way k .point) .ok)
+          (of t (aim .target) .ok) (apart-comm (c (pointAfter m s t k)) (c t) ∙ nothing-left k)
 
     pub stays-x : T (eq (s .x) (t .x)) → (k : ℕ) → T (eq (pointAfter m s t k .x) (t .x))
     stays-x h k = stays-level (λ p. p .x) (λ p w. w .0) (λ i. never-farther i .x) h k
@@ -64,7 +68,8 @@ module _ (m : Float) (s t : Point) where
   -- the step after k of them, where the walk has not arrived, and where it has
   pub moves-on : (k : ℕ) → T (not (same (pointAfter m s t k) t)) → moveTowards (pointAfter m s t k) t m ≡ Moved (pointAfter m s t (suc k))
   unfolding pointAfter pointOf
-  moves-on k h = let e = moves (pointAfter m s t k) t m (is-false (same (pointAfter m s t k) t) h) in e ∙ sym (ap (λ a. Moved (pointOf a)) e)
+  moves-on k h =
+      let e = moves (pointAfter m s t k) t m (is-false (same (pointAfter m s t k) t) h) in e ∙ sym (ap (λ a. Moved (pointOf a)) e)
 
   pub stands-there : (k : ℕ) → T (same (pointAfter m s t k) t) → moveTowards (pointAfter m s t k) t m ≡ Arrived t
   stands-there k h = stands (pointAfter m s t k) t m (is-true (same (pointAfter m s t k) t) h)

@@ -1,6 +1,7 @@
--- No step inside a walk is refused: what the walk hands to a step stays within that step's limits, coordinates to 4 m and a max move from 0 to 1 m.
+-- No step inside a walk is refused: what the walk hands to a step stays within that step's limits, coordinates to 4 m and a max move
+-- from 0 to 1 m.
 -- (That the step then hands the root no more than the root's limit, `moves` shows of all that it takes.)
-use mathlib.Core.Path.{_≡_, sym, subst}
+use mathlib.Core.Path.{_≡_, sym}
 use mathlib.Core.Logic.{_⊎_, inl, inr}
 use mathlib.Core.Bool.{_&&_}
 use Prim.Native.Nat.{ℕ, _+_, _*_, _^_, _≤_, _<_}
@@ -10,19 +11,19 @@ use lib.Pow.{pow-pos}
 use lib.Ieee.Bits.{is-true}
 use lib.Ieee.{Float, binary32, le}
 use lib.Ieee.Fits.{and-i}
-use Rattle.numbers.specs.Door.{finite, permits}
-use Rattle.numbers.specs.Limits.{maxMove, foot as footLimit}
+use Rattle.numbers.specs.Door.{permits}
+use Rattle.numbers.specs.Limits.{maxMove, footLimit}
 use Rattle.numbers.specs.declared.door.Limit.{Limit}
 use Rattle.units.specs.Units.{Units, unity, hi, lo}
-use Rattle.units.proofs.Values.{part-finite, one-side}
+use Rattle.units.proofs.Values.{one-side}
 use Rattle.units.proofs.Order.{le-part}
 use Rattle.units.proofs.Held.{Single}
-use Rattle.units.proofs.Door.{Ends, finite-is}
+use Rattle.units.proofs.Door.{Ends}
 use Rattle.units.proofs.Table.{foot-ends, max-move-ends}
-use Rattle.legs.specs.Legs.{finitePoint, permittedPoint}
+use Rattle.legs.specs.Legs.{permittedPoint}
 use Rattle.legs.specs.declared.Point.{Point}
 use Rattle.moves.specs.Refusals.{moveRefusal}
-use Rattle.moves.proofs.Refusals.{none-refused}
+use Rattle.moves.proofs.OnePass.{move-taken}
 use Rattle.moves.specs.Distance.{Each}
 use Rattle.walks.specs.Walk.{pointAfter}
 use Rattle.walks.specs.Reach.{Reach}
@@ -34,7 +35,8 @@ use Rattle.walks.proofs.Steps.{Between}
 use Rattle.walks.proofs.Trail.{on-way, between}
 
 -- ---- a coordinate of the walk is at most 4
-module _ (hs ls ht lt hl ll d u : ℕ) (small : d ≤ u) (side : (hl ≡ 0) ⊎ (ll ≡ 0)) (a : hs ≤ 3 * u) (b : ls ≤ 3 * u) (c : ht ≤ 3 * u) (e : lt ≤ 3 * u) where
+module _ (hs ls ht lt hl ll d u : ℕ) (small : d ≤ u) (side : (hl ≡ 0) ⊎ (ll ≡ 0)) (a : hs ≤ 3 * u) (b : ls ≤ 3 * u)
+    (c : ht ≤ 3 * u) (e : lt ≤ 3 * u) where
   not-below : (hs + ll ≤ ls + hl + d) ⊎ (ht + ll ≤ lt + hl + d) → ll ≤ 4 * u + hl
   not-below (inl h) = omega arith
   not-below (inr h) = omega arith
@@ -43,7 +45,8 @@ module _ (hs ls ht lt hl ll d u : ℕ) (small : d ≤ u) (side : (hl ≡ 0) ⊎ 
   not-above (inl h) = omega arith
   not-above (inr h) = omega arith
 
-four : (s t l : Float) → Single l → Parts (3 * unity) s → Parts (3 * unity) t → Inside s t l → (lo l ≤ 4 * unity + hi l) × (hi l ≤ lo l + 4 * unity)
+four : (s t l : Float) → Single l → Parts (3 * unity) s → Parts (3 * unity) t → Inside s t l
+    → (lo l ≤ 4 * unity + hi l) × (hi l ≤ lo l + 4 * unity)
 four s t l w p q i =
     let side = one-side binary32 l (hi l) (lo l) (w .ok) in (
       not-below (hi s) (lo s) (hi t) (lo t) (hi l) (lo l) (51 * δ) unity (lit≤ tt) side (p .0) (p .1) (q .0) (q .1) (i .low),
@@ -51,11 +54,11 @@ four s t l w p q i =
     )
 
 -- ---- the door's tests, from units
-finite-units : (x : Float) → Units x → T (finite x)
-finite-units x u = subst T (sym (finite-is x)) (part-finite binary32 x (hi x) (lo x) u)
-
-permits-units : (l : Limit) (p n q r : ℕ) → Ends l p n q r → (x : Float) → Units x → p + lo x ≤ n + hi x → hi x + r ≤ lo x + q → T (permits l x)
-permits-units l p n q r e x u a b = and-i (le (l .from) x) (le x (l .to)) (le-part binary32 (l .from) x p n (hi x) (lo x) (e .from) u .1 a) (le-part binary32 x (l .to) (hi x) (lo x) q r u (e .to) .1 b)
+permits-units : (l : Limit) (p n q r : ℕ) → Ends l p n q r → (x : Float) → Units x → p + lo x ≤ n + hi x → hi x + r ≤ lo x + q
+    → T (permits l x)
+permits-units l p n q r e x u a b =
+    and-i (le (l .from) x) (le x (l .to)) (le-part binary32 (l .from) x p n (hi x) (lo x) (e .from) u .1 a)
+    (le-part binary32 x (l .to) (hi x) (lo x) q r u (e .to) .1 b)
 
 coordinate : (s t l : Float) → Single l → Parts (3 * unity) s → Parts (3 * unity) t → Inside s t l → T (permits footLimit l)
 coordinate s t l w p q i =
@@ -68,14 +71,8 @@ coordinate s t l w p q i =
     down : {a b : ℕ} → a ≤ b → a + 0 ≤ b
     down {a} {b} h = omega arith
 
-finite-point : (p : Point) → Each Single p → T (finitePoint p)
-unfolding finitePoint
-finite-point p w =
-    and-i (finite (p .x) && finite (p .y)) (finite (p .z))
-    (and-i (finite (p .x)) (finite (p .y)) (finite-units (p .x) (w .0 .ok)) (finite-units (p .y) (w .1 .ok)))
-    (finite-units (p .z) (w .2 .ok))
-
-permitted-point : (s t l : Point) → Each Single l → Each (Parts (3 * unity)) s → Each (Parts (3 * unity)) t → Between s t l → T (permittedPoint footLimit l)
+permitted-point : (s t l : Point) → Each Single l → Each (Parts (3 * unity)) s → Each (Parts (3 * unity)) t → Between s t l
+    → T (permittedPoint footLimit l)
 unfolding permittedPoint
 permitted-point s t l w p q b =
     and-i (permits footLimit (l .x) && permits footLimit (l .y)) (permits footLimit (l .z))
@@ -94,7 +91,8 @@ module _ (m : Float) (s t : Point) (r : Reach m s t) (fm : Fit m) (fs : Each Fit
   permitted-move : T (permits maxMove m)
   permitted-move =
       let u = move-single m s t r fm fs ft in
-      permits-units maxMove 0 0 unity 0 max-move-ends m (u .ok) (level (one-side binary32 m (hi m) (lo m) (u .ok)) (r .from)) (least (r .to))
+      permits-units maxMove 0 0 unity 0 max-move-ends m (u .ok)
+      (level (one-side binary32 m (hi m) (lo m) (u .ok)) (r .from)) (least (r .to))
     where
       level : (hi m ≡ 0) ⊎ (lo m ≡ 0) → 2 ^ 137 ≤ hi m → 0 + lo m ≤ 0 + hi m
       level = above (hi m) (lo m) (2 ^ 137) (pow-pos 137)
@@ -110,18 +108,15 @@ module _ (m : Float) (s t : Point) (r : Reach m s t) (fm : Fit m) (fs : Each Fit
           below a b u h = omega arith
 
   pub unrefused : (k : ℕ) → moveRefusal (pointAfter m s t k) t m ≡ 0
-  unfolding moveRefusal
   unrefused k =
       let l = pointAfter m s t k in
       let p = all-parts s (r .start) in
       let q = all-parts t (r .target) in
-      let w = on-way m s t aim start k .point in
-      none-refused (finitePoint l && finitePoint t && finite m) (permittedPoint footLimit l && permittedPoint footLimit t && permits maxMove m)
-      (is-true (finitePoint l && finitePoint t && finite m)
-      (and-i (finitePoint l && finitePoint t) (finite m) (and-i (finitePoint l) (finitePoint t) (finite-point l w) (finite-point t (aim .target))) (r .move)))
+      let there : Between s t t = record { x = at-end (s .x) (t .x); y = at-end (s .y) (t .y); z = at-end (s .z) (t .z) } in
+      sym (move-taken l t m
       (is-true (permittedPoint footLimit l && permittedPoint footLimit t && permits maxMove m)
       (and-i (permittedPoint footLimit l && permittedPoint footLimit t) (permits maxMove m)
       (and-i (permittedPoint footLimit l) (permittedPoint footLimit t)
-      (permitted-point s t l w p q (between m s t aim start k))
-      (permitted-point s t t (aim .target) p q (record { x = at-end (s .x) (t .x); y = at-end (s .y) (t .y); z = at-end (s .z) (t .z) })))
-      permitted-move))
+      (permitted-point s t l (on-way m s t aim start k .point) p q (between m s t aim start k))
+      (permitted-point s t t (aim .target) p q there))
+      permitted-move)))

@@ -1,5 +1,6 @@
--- The walks that the facts hold for: wider than document 01's table, which the entries keep to. Finite numbers; coordinates to 3 m either way;
--- a max move from 1/4096 m to 1 m.
+-- Not document 01's table but what ours asks behind the door, so that a walk ends: finite numbers, coordinates to 3 m either way, a max
+-- move
+-- from 1/4096 m to 1 m. It is wider than the table, to which the entries keep.
 use Prim.Native.Nat.{ℕ, _*_, _^_, _≤_}
 use lib.Dec.{T}
 use lib.Ieee.{Float}

@@ -21,13 +21,18 @@ pub fn walk_refused(max_move: f32, start: Point, target: Point) -> u32
 {
     let foot = numbers::limits::walk_foot();
     let longest = numbers::limits::walk_move();
-    let finite = door::is_finite(max_move)
-        & legs::core::point_finite(start)
-        & legs::core::point_finite(target);
-    let permitted = door::is_permitted(longest, max_move)
-        & legs::core::point_permitted(foot, start)
-        & legs::core::point_permitted(foot, target);
-    door::either(door::unless(finite, 1), door::unless(permitted, 2))
+    let permitted = legs::core::point_permitted(foot, start)
+        & legs::core::point_permitted(foot, target)
+        & door::is_permitted(longest, max_move);
+    if permitted {
+        0
+    } else {
+        door::outside(
+            legs::core::point_finite(start)
+                & legs::core::point_finite(target)
+                & door::is_finite(max_move),
+        )
+    }
 }
 
 // The same over six feet.
@@ -36,13 +41,18 @@ pub fn walk_feet_refused(max_move: f32, start: Feet, target: Feet) -> u32
 {
     let foot = numbers::limits::walk_foot();
     let longest = numbers::limits::walk_move();
-    let finite = door::is_finite(max_move)
-        & legs::core::feet_finite(start)
-        & legs::core::feet_finite(target);
-    let permitted = door::is_permitted(longest, max_move)
-        & legs::core::feet_permitted(foot, start)
-        & legs::core::feet_permitted(foot, target);
-    door::either(door::unless(finite, 1), door::unless(permitted, 2))
+    let permitted = legs::core::feet_permitted(foot, start)
+        & legs::core::feet_permitted(foot, target)
+        & door::is_permitted(longest, max_move);
+    if permitted {
+        0
+    } else {
+        door::outside(
+            legs::core::feet_finite(start)
+                & legs::core::feet_finite(target)
+                & door::is_finite(max_move),
+        )
+    }
 }
 
 // How many steps a point makes to its target.

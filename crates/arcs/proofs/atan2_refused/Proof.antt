@@ -37,15 +37,30 @@ within = in-row atan2Argument (refl, refl)
 returns : tie.Need-returns
 returns c =
     let a = c .before .before .before .before .before .args in
-    let p = simp (c .before .is-permitted2 .ensures, c .before .before .atan2-argument2 .ensures, c .before .before .before .is-permitted .ensures, c .before .before .before .before .atan2-argument .ensures) at (c .if1 .taken) in
+    let p =
+    simp (
+      c .before .is-permitted2 .ensures,
+      c .before .before .atan2-argument2 .ensures,
+      c .before .before .before .is-permitted
+          .ensures,
+      c .before .before .before .before .atan2-argument .ensures,
+    ) at (c .if1 .taken) in
     let-through (both (within (a .y)) (within (a .x)) p) p
 
 returns-2 : tie.Need-returns-2
 returns-2 c =
     let d = c .before .before .before .before in
     let a = d .before .before .before .before .args in
-    let p = simp (d .is-permitted2 .ensures, d .before .atan2-argument2 .ensures, d .before .before .is-permitted .ensures, d .before .before .before .atan2-argument .ensures) at (c .before .before .before .if1 .left) in
-    simp (c .outside .ensures, c .before .is-finite2 .ensures, c .before .before .is-finite .ensures) (kept-out (finite (a .y) && finite (a .x)) (permits atan2Argument (a .y) && permits atan2Argument (a .x)) p)
+    let p =
+    simp (
+      d .is-permitted2 .ensures,
+      d .before .atan2-argument2 .ensures,
+      d .before .before .is-permitted .ensures,
+      d .before .before
+          .before .atan2-argument .ensures,
+    ) at (c .before .before .before .if1 .left) in
+    simp (c .outside .ensures, c .before .is-finite2 .ensures, c .before .before .is-finite .ensures)
+    (kept-out (finite (a .y) && finite (a .x)) (permits atan2Argument (a .y) && permits atan2Argument (a .x)) p)
 
 pub atan2-refused-spec : {M : Type 1} → statement M
 atan2-refused-spec =

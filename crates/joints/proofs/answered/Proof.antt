@@ -3,12 +3,6 @@ use borrow.Author.Needs.{needs}
 use Rattle.joints.proofs.answered.Statement.{statement}
 use Rattle.joints.proofs.answered.Tie as tie
 
-enum-known-legs : tie.Need-enum-known-legs
-enum-known-legs c = search needs
-
-enum-told : tie.Need-enum-told
-enum-told c = search needs
-
 returns : tie.Need-returns
 returns c = rw (c .before .legs .given .1)
 
@@ -16,4 +10,4 @@ returns-2 : tie.Need-returns-2
 returns-2 c = search needs
 
 pub answered-spec : {M : Type 1} → statement M
-answered-spec = tie.close (tie.spec enum-known-legs enum-told returns returns-2)
+answered-spec = tie.close (tie.spec (λ c. search needs) (λ c. search needs) returns returns-2)

@@ -6,18 +6,16 @@ use Rattle.legs.proofs.selected_legs.Tie as tie
 
 returns : tie.Need-returns
 unfolding selectTold
-returns c = simp (c .selected-legs .ensures, ← c .before .before .selected-refused .ensures, eq-eqb _ 0 (c .before .if1 .taken))
+returns c =
+    simp (
+      c .selected-legs .ensures,
+      ← c .before .before .selected-refused .ensures,
+      eq-eqb _ 0 (c .before .if1 .taken),
+    )
 
 returns-2 : tie.Need-returns-2
 unfolding selectTold
-returns-2 c = simp (c .none-selected .ensures, ← c .before .before .selected-refused .ensures, ne-eqb _ 0 (c .before .if1 .left))
+returns-2 c = simp (← c .before .selected-refused .ensures, ne-eqb _ 0 (c .if1 .left))
 
 pub selected-legs-spec : {M : Type 1} → statement M
-selected-legs-spec =
-    tie.close
-    (tie.spec
-    (λ _ _. tt)
-    (λ _ _. tt)
-    (λ _ _. tt)
-    returns
-    returns-2)
+selected-legs-spec = tie.close (tie.spec (λ _ _. tt) (λ _ _. tt) returns returns-2)

@@ -1,12 +1,8 @@
 -- `moves::feet_to_move_towards_iter` meets its contract: refused, or the state.
 use Rattle.moves.specs.Iterators.{feetIterTold}
 use borrow.Author.Tests.{eq-eqb, ne-eqb}
-use borrow.Author.Needs.{needs}
 use Rattle.moves.proofs.feet_to_move_towards_iter.Statement.{statement}
 use Rattle.moves.proofs.feet_to_move_towards_iter.Tie as tie
-
-move-feet-refused-requires : tie.Need-move-feet-refused-requires
-move-feet-refused-requires c κs = search needs
 
 returns : tie.Need-returns
 unfolding feetIterTold
@@ -17,4 +13,4 @@ unfolding feetIterTold
 returns-2 c = simp (← c .before .move-feet-refused .ensures, ne-eqb _ 0 (c .if1 .left))
 
 pub feet-to-move-towards-iter-spec : {M : Type 1} → statement M
-feet-to-move-towards-iter-spec = tie.close (tie.spec move-feet-refused-requires returns returns-2)
+feet-to-move-towards-iter-spec = tie.close (tie.spec (λ _ _. tt) returns returns-2)

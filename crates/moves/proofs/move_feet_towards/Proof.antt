@@ -1,15 +1,8 @@
 -- `moves::move_feet_towards` meets its contract: refused, or what the core gives.
 use Rattle.moves.specs.Entries.{moveFeetTold}
 use borrow.Author.Tests.{eq-eqb, ne-eqb}
-use borrow.Author.Needs.{needs}
 use Rattle.moves.proofs.move_feet_towards.Statement.{statement}
 use Rattle.moves.proofs.move_feet_towards.Tie as tie
-
-move-feet-refused-requires : tie.Need-move-feet-refused-requires
-move-feet-refused-requires c κs = search needs
-
-move-feet-towards-requires : tie.Need-move-feet-towards-requires
-move-feet-towards-requires c κs = search needs
 
 returns : tie.Need-returns
 unfolding moveFeetTold
@@ -20,5 +13,4 @@ unfolding moveFeetTold
 returns-2 c = simp (← c .before .move-feet-refused .ensures, ne-eqb _ 0 (c .if1 .left))
 
 pub move-feet-towards-spec : {M : Type 1} → statement M
-move-feet-towards-spec =
-    tie.close (tie.spec move-feet-refused-requires move-feet-towards-requires returns returns-2)
+move-feet-towards-spec = tie.close (tie.spec (λ _ _. tt) (λ _ _. tt) returns returns-2)

@@ -1,15 +1,8 @@
 -- `moves::move_towards` meets its contract: refused, or what the core gives.
 use Rattle.moves.specs.Entries.{moveTold}
 use borrow.Author.Tests.{eq-eqb, ne-eqb}
-use borrow.Author.Needs.{needs}
 use Rattle.moves.proofs.move_towards.Statement.{statement}
 use Rattle.moves.proofs.move_towards.Tie as tie
-
-move-refused-requires : tie.Need-move-refused-requires
-move-refused-requires c κs = search needs
-
-move-towards-requires : tie.Need-move-towards-requires
-move-towards-requires c κs = search needs
 
 returns : tie.Need-returns
 unfolding moveTold
@@ -20,5 +13,4 @@ unfolding moveTold
 returns-2 c = simp (← c .before .move-refused .ensures, ne-eqb _ 0 (c .if1 .left))
 
 pub move-towards-spec : {M : Type 1} → statement M
-move-towards-spec =
-    tie.close (tie.spec move-refused-requires move-towards-requires returns returns-2)
+move-towards-spec = tie.close (tie.spec (λ _ _. tt) (λ _ _. tt) returns returns-2)

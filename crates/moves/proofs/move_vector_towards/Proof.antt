@@ -1,15 +1,8 @@
 -- `moves::move_vector_towards` meets its contract: refused, or what the core gives.
 use Rattle.moves.specs.Entries.{moveVectorTold}
 use borrow.Author.Tests.{eq-eqb, ne-eqb}
-use borrow.Author.Needs.{needs}
 use Rattle.moves.proofs.move_vector_towards.Statement.{statement}
 use Rattle.moves.proofs.move_vector_towards.Tie as tie
-
-move-refused-requires : tie.Need-move-refused-requires
-move-refused-requires c κs = search needs
-
-move-vector-towards-requires : tie.Need-move-vector-towards-requires
-move-vector-towards-requires c κs = search needs
 
 returns : tie.Need-returns
 unfolding moveVectorTold
@@ -20,5 +13,4 @@ unfolding moveVectorTold
 returns-2 c = simp (← c .before .move-refused .ensures, ne-eqb _ 0 (c .if1 .left))
 
 pub move-vector-towards-spec : {M : Type 1} → statement M
-move-vector-towards-spec =
-    tie.close (tie.spec move-refused-requires move-vector-towards-requires returns returns-2)
+move-vector-towards-spec = tie.close (tie.spec (λ _ _. tt) (λ _ _. tt) returns returns-2)

@@ -18,6 +18,4 @@ unfolding planTold
 returns-2 c = simp (ne-eqb _ 0 (c .if1 .left), ← c .before .plan-refused .ensures)
 
 pub step-with-relaxed-transformation-spec : {M : Type 1} → statement M
-step-with-relaxed-transformation-spec =
-    tie.close
-    (tie.spec (λ _ _. tt) (λ _ _. tt) returns returns-2)
+step-with-relaxed-transformation-spec = tie.close (tie.spec (λ _ _. tt) (λ _ _. tt) returns returns-2)

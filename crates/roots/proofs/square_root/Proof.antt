@@ -1,14 +1,12 @@
 -- `roots::square_root` meets its contract: refused where the door says so, else what the core gives, which is the closest.
-use mathlib.Core.Path.{_≡_, refl, sym, ap, _∙_, subst}
+use mathlib.Core.Path.{_≡_, refl, sym, subst}
 use mathlib.Core.Bool.{Bool}
 use lib.Dec.{T}
-use lib.Ieee.{Float, binary32, fits}
-use Rattle.numbers.specs.Told.{choose}
+use lib.Ieee.{binary32, fits}
 use Rattle.numbers.specs.Door.{finite, permits}
-use Rattle.numbers.proofs.OnePass.{taken, turned-away, tested}
 use Rattle.numbers.specs.Limits.{rootArgument}
-use Rattle.numbers.specs.declared.Answer.the-variants.{Value, Refused}
-use Rattle.numbers.proofs.OneAnswer.{never-both, one-number}
+use Rattle.numbers.proofs.OneNumber.{by-row, gives, turns-away}
+use Rattle.roots.specs.How.{squareRoot}
 use Rattle.roots.specs.Root.{RootOf}
 use Rattle.roots.proofs.Laws.{root-of}
 use borrow.Author.Needs.{needs}
@@ -25,9 +23,9 @@ root-argument-requires c κs = search needs
 is-permitted-requires : tie.Need-is-permitted-requires
 is-permitted-requires c κs = search needs
 
--- the door's test is the row's
-test : (c : tie.After-is-permitted) → c .is-permitted .result ≡ permits rootArgument (c .before .before .args .x)
-test c = tested rootArgument (c .before .root-argument .result) (c .before .before .args .x) (c .is-permitted .result) (c .before .root-argument .ensures) (c .is-permitted .ensures)
+-- the branch is the row's
+row : (c : tie.After-is-permitted) (b : Bool) → c .is-permitted .result ≡ b → permits rootArgument (c .before .before .args .x) ≡ b
+row c b = by-row rootArgument (c .before .before .args .x) (c .before .root-argument .ensures) (c .is-permitted .ensures)
 
 square-root-requires : tie.Need-square-root-requires
 square-root-requires c κs = search needs
@@ -41,18 +39,18 @@ outside-requires c κs = search needs
 returns : tie.Need-returns
 unfolding rootArgument finite
 returns c =
-    let s = c .before .before .before .before in
-    let x = s .args .x in (
-      simp (c .square-root .ensures, taken rootArgument (refl, refl) x (sym (test (c .before .before)) ∙ c .before .if1 .taken)),
-      λ (y : Float) (v : Value (c .square-root .result) ≡ Value y). subst (RootOf x) (sym (c .square-root .ensures) ∙ one-number (c .square-root .result) y v) (root-of x (held s)),
-    )
+    let b = c .before in
+    let s = b .before .before .before in
+    let x = s .args .x in
+    gives rootArgument (refl, refl) x (squareRoot x) (RootOf x) (row (b .before) _ (b .if1 .taken))
+    (c .square-root .ensures) (root-of x (held s))
 
 returns-2 : tie.Need-returns-2
 returns-2 c =
     let b = c .before .before in
     let x = b .before .before .before .args .x in
-    let n = turned-away rootArgument x (c .outside .result) (sym (test (b .before)) ∙ b .if1 .left) (c .outside .ensures ∙ ap (λ (t : Bool). choose t 2 1) (c .before .is-finite .ensures)) in
-    (simp (n .0, n .1), λ (y : Float) (e : Refused (c .outside .result) ≡ Value y). absurd (never-both (c .outside .result) y e))
+    turns-away rootArgument x (squareRoot x) (RootOf x) (row (b .before) _ (b .if1 .left))
+    (c .before .is-finite .ensures) (c .outside .ensures)
 
 pub square-root-spec : {M : Type 1} → statement M
 square-root-spec =

@@ -5,8 +5,7 @@ use Rattle.steps.proofs.progress_refused.Tie as tie
 
 returns : tie.Need-returns
 unfolding progressRefusal
-returns c = simp (c .unless .ensures, c .before .is-period .ensures, c .before .before .is-elapsed .ensures)
+returns c = simp (c .unless .ensures, c .before .is-timely .ensures)
 
 pub progress-refused-spec : {M : Type 1} → statement M
-progress-refused-spec =
-    tie.close (tie.spec (λ _ _. tt) (λ _ _. tt) (λ _ _. tt) returns)
+progress-refused-spec = tie.close (tie.spec (λ _ _. tt) (λ _ _. tt) returns)

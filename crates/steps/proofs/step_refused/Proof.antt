@@ -1,24 +1,44 @@
--- `steps::step_refused` meets its contract: the tests in the order of their numbers.
-use Rattle.steps.specs.Refusals.{stepRefusal}
+-- `steps::step_refused` meets its contract: what the first pass lets through is finite too.
+use Rattle.numbers.proofs.OnePass.{let-through, kept-out}
+use Rattle.steps.specs.Refusals.{finiteStep, permittedStep, stepRefusal}
+use Rattle.steps.proofs.OnePass.{step-finite}
 use Rattle.steps.proofs.step_refused.Statement.{statement}
 use Rattle.steps.proofs.step_refused.Tie as tie
 
 returns : tie.Need-returns
 unfolding stepRefusal
 returns c =
+    let d = c .before in
+    let s = d .before .before .before .before .before .args .s in
+    let p =
     simp (
-      c .either .ensures,
-      c .before .unless2 .ensures,
-      c .before .before .unless .ensures,
-      c .before .before .before .is-permitted2 .ensures,
-      c .before .before .before .before .direction .ensures,
-      c .before .before .before .before .before .is-permitted .ensures,
-      c .before .before .before .before .before .before .max-move .ensures,
-      c .before .before .before .before .before .before .before .course-permitted .ensures,
-      c .before .before .before .before .before .before .before .before .is-finite2 .ensures,
-      c .before .before .before .before .before .before .before .before .before .is-finite .ensures,
-      c .before .before .before .before .before .before .before .before .before .before .course-finite .ensures,
-    )
+      d .is-permitted2 .ensures,
+      d .before .direction .ensures,
+      d .before .before .is-permitted .ensures,
+      d .before .before .before .max-move .ensures,
+      d .before .before .before .before .course-permitted .ensures,
+    ) at (c .if1 .taken) in
+    let-through {F = finiteStep s} {P = permittedStep s} (step-finite s p) p
+
+returns-2 : tie.Need-returns-2
+unfolding stepRefusal
+returns-2 c =
+    let d = c .before .before .before .before .before in
+    let s = d .before .before .before .before .before .args .s in
+    let p =
+    simp (
+      d .is-permitted2 .ensures,
+      d .before .direction .ensures,
+      d .before .before .is-permitted .ensures,
+      d .before .before .before .max-move .ensures,
+      d .before .before .before .before .course-permitted .ensures,
+    ) at (c .before .before .before .before .if1 .left) in
+    simp (
+      c .outside .ensures,
+      c .before .is-finite2 .ensures,
+      c .before .before .is-finite .ensures,
+      c .before .before .before .course-finite .ensures,
+    ) (kept-out (finiteStep s) (permittedStep s) p)
 
 pub step-refused-spec : {M : Type 1} → statement M
 step-refused-spec =
@@ -33,6 +53,5 @@ step-refused-spec =
     (λ _ _. tt)
     (λ _ _. tt)
     (λ _ _. tt)
-    (λ _ _. tt)
-    (λ _ _. tt)
-    returns)
+    returns
+    returns-2)

@@ -2,6 +2,7 @@
 use native.Mathlib.Omega.{arith}
 use mathlib.Core.Path.{subst, sym}
 use Prim.Native.Nat.{ℕ, _≤_}
+use Rattle.arcs.specs.How.{half}
 use Rattle.arcs.proofs.Ranges.{wide-le, angle-is}
 use borrow.Author.Needs.{needs}
 use Rattle.arcs.proofs.angle.angle.Statement.{statement}
@@ -17,10 +18,17 @@ chosen-requires : tie.Need-chosen-requires
 chosen-requires c κs = search needs
 
 add-result : tie.Need-add-result
-add-result c = let h = subst (λ (n : ℕ). n ≤ 3373259426) (sym (c .chosen .ensures)) (wide-le (c .before .before .args .left) (c .before .sharp .result) (c .before .sharp .ensures .1)) in omega arith
+add-result c =
+    let t = c .before .sharp .result in
+    let h = wide-le (c .before .before .args .left) t (c .before .sharp .ensures .1) in
+    let k = subst (λ (n : ℕ). n ≤ half) (sym (c .chosen .ensures)) h in
+    omega arith
 
 returns : tie.Need-returns
-returns c = angle-is (c .before .before .args .steep) (c .before .before .args .left) (c .before .before .args .w) (c .before .sharp .result) (c .chosen .result) (c .before .sharp .ensures .0) (c .before .sharp .ensures .1) (c .chosen .ensures)
+returns c =
+    let s = c .before .before .args in
+    let t = c .before .sharp in
+    angle-is (s .steep) (s .left) (s .w) (t .result) (c .chosen .result) (t .ensures .0) (t .ensures .1) (c .chosen .ensures)
 
 pub angle-spec : {M : Type 1} → statement M
 angle-spec = tie.close (tie.spec sharp-requires sub-chosen chosen-requires add-result returns)

@@ -14,7 +14,10 @@ chosen-requires : tie.Need-chosen-requires
 chosen-requires c κs = search needs
 
 returns : tie.Need-returns
-returns c = let s = c .before .before in sharp-is (s .args .steep) (s .args .w) (c .before .slope .result) (c .chosen .result) (c .before .slope .ensures .0) (c .before .slope .ensures .1) (c .chosen .ensures)
+returns c =
+    let s = c .before .before .args in
+    let t = c .before .slope in
+    sharp-is (s .steep) (s .w) (t .result) (c .chosen .result) (t .ensures .0) (t .ensures .1) (c .chosen .ensures)
 
 pub sharp-spec : {M : Type 1} → statement M
 sharp-spec = tie.close (tie.spec slope-requires sub-chosen chosen-requires returns)

@@ -34,10 +34,14 @@ inside-arc-cosine-requires : tie.Need-inside-arc-cosine-requires
 inside-arc-cosine-requires c κs = passed c
 
 returns : tie.Need-returns
-returns c = arc-cosine-both (c .before .before .before .before .args .q) (c .inside-arc-cosine .result) (held (c .before .before .before .before)) (c .inside-arc-cosine .ensures ∙ sym (inside-is (c .before .before .before .before .args .q) (passed (c .before))))
+returns c =
+    arc-cosine-both (c .before .before .before .before .args .q) (c .inside-arc-cosine .result) (held (c .before .before .before .before))
+    (c .inside-arc-cosine .ensures ∙ sym (inside-is (c .before .before .before .before .args .q) (passed (c .before))))
 
 returns-2 : tie.Need-returns-2
-returns-2 c = arc-cosine-both (c .before .before .before .args .q) _ (held (c .before .before .before)) (outside-is (c .before .before .before .args .q) (sym (test (c .before)) ∙ c .if1 .left))
+returns-2 c =
+    arc-cosine-both (c .before .before .before .args .q) _ (held (c .before .before .before))
+    (outside-is (c .before .before .before .args .q) (sym (test (c .before)) ∙ c .if1 .left))
 
 pub arc-cosine-spec : {M : Type 1} → statement M
 arc-cosine-spec =

@@ -17,11 +17,14 @@ square-root-requires c κs = search needs
 
 finite-atan2-requires : tie.Need-finite-atan2-requires
 unfolding side
-finite-atan2-requires c κs = let s = c .before in root-finite (s .args .q) (c .square-root .result) (held s) (s .pre) (c .square-root .ensures)
+finite-atan2-requires c κs = let s = c .before in
+    root-finite (s .args .q) (c .square-root .result) (held s) (s .pre) (c .square-root .ensures)
 
 returns : tie.Need-returns
 unfolding side
-returns c = let s = c .before .before in arc-is (s .args .q) (c .before .square-root .result) (c .finite-atan2 .result) (c .before .square-root .ensures) (c .finite-atan2 .ensures)
+returns c = let s = c .before .before in
+    arc-is (s .args .q) (c .before .square-root .result) (c .finite-atan2 .result) (c .before .square-root .ensures)
+    (c .finite-atan2 .ensures)
 
 pub inside-arc-cosine-spec : {M : Type 1} → statement M
 inside-arc-cosine-spec = tie.close (tie.spec square-root-requires finite-atan2-requires returns)

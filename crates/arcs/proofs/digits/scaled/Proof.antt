@@ -13,11 +13,12 @@ int-to-float-result : tie.Need-int-to-float-result
 unfolding inFloat
 int-to-float-result c = le→leb (c .before .args .a) 16777216 (omega arith)
 
-unit-requires : tie.Need-unit-requires
-unit-requires c κs = search needs
+angle-unit-requires : tie.Need-angle-unit-requires
+angle-unit-requires c κs = search needs
 
 returns : tie.Need-returns
-returns c = let s = c .before .before in ap (mul binary32 (ofInt binary32 (pos (s .args .a)))) (c .unit .ensures) ∙ product-is (s .args .below) (s .args .a) (s .pre)
+returns c = let s = c .before .before in
+    ap (mul binary32 (ofInt binary32 (pos (s .args .a)))) (c .angle-unit .ensures) ∙ product-is (s .args .below) (s .args .a) (s .pre)
 
 pub scaled-spec : {M : Type 1} → statement M
-scaled-spec = tie.close (tie.spec int-to-float-result unit-requires returns)
+scaled-spec = tie.close (tie.spec int-to-float-result angle-unit-requires returns)

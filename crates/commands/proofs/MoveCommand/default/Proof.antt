@@ -1,15 +1,12 @@
--- `commands::MoveCommand::default` meets its contract: the bits of its constants are computed.
-use lib.Ieee.{ofBits}
-use Rattle.numbers.specs.Limits.{over}
-use Rattle.commands.specs.Constants.{nought}
-use Rattle.commands.specs.Command.{defaultCommand, defaultStepHeight}
-use mathlib.Core.Path.{refl}
+-- `commands::MoveCommand::default` meets its contract: the bits of 0, and what the defaults promise.
+use Rattle.commands.specs.Command.{defaultCommand}
+use Rattle.commands.proofs.Constants.{nought-bits}
 use Rattle.commands.proofs.MoveCommand.default.Statement.{statement}
 use Rattle.commands.proofs.MoveCommand.default.Tie as tie
 
 returns : tie.Need-returns
-unfolding ofBits over nought defaultCommand defaultStepHeight
-returns c = refl
+unfolding defaultCommand
+returns c = simp (nought-bits, c .default-step-height .ensures, c .before .default-step-time .ensures)
 
 pub default-spec : {M : Type 1} → statement M
-default-spec = tie.close (tie.spec returns)
+default-spec = tie.close (tie.spec (λ _ _. tt) (λ _ _. tt) returns)

@@ -28,7 +28,9 @@ returns c = refl
 
 returns-2 : tie.Need-returns-2
 unfolding periodPermitted
-returns-2 c = simp (lt-leb (c .before .before .args .t .seconds * 1000000000 + c .before .before .args .t .nanoseconds) 60000000000 (omega arith), and-false)
+returns-2 c =
+    let t = c .before .before .args .t in
+    simp (lt-leb (t .seconds * 1000000000 + t .nanoseconds) 60000000000 (omega arith), and-false)
 
 pub is-period-spec : {M : Type 1} → statement M
 is-period-spec = tie.close (tie.spec mul-total cast-total add-total returns returns-2)

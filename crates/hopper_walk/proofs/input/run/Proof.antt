@@ -36,6 +36,9 @@ slice-aggregate-read c = search needs
 read-requires : tie.Need-read-requires Inv-loop μ-loop
 read-requires c κs = search needs
 
+stopped-requires : tie.Need-stopped-requires Inv-loop μ-loop
+stopped-requires c κs = search needs
+
 loop-less : tie.Need-loop-less Inv-loop μ-loop
 loop-less c = search needs
 
@@ -92,6 +95,7 @@ run-spec =
     loop-holds
     slice-aggregate-read
     read-requires
+    stopped-requires
     loop-less
     loop-again
     slice-aggregate-count

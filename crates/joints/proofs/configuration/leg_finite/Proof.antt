@@ -1,20 +1,7 @@
 -- `joints::configuration::leg_finite` meets its contract, float by float.
 use Rattle.joints.specs.Configured.{finiteLeg}
-use borrow.Author.Needs.{needs}
 use Rattle.joints.proofs.configuration.leg_finite.Statement.{statement}
 use Rattle.joints.proofs.configuration.leg_finite.Tie as tie
-
-point-finite-requires : tie.Need-point-finite-requires
-point-finite-requires c κs = search needs
-
-is-finite-requires : tie.Need-is-finite-requires
-is-finite-requires c κs = search needs
-
-is-finite-requires-2 : tie.Need-is-finite-requires-2
-is-finite-requires-2 c κs = search needs
-
-is-finite-requires-3 : tie.Need-is-finite-requires-3
-is-finite-requires-3 c κs = search needs
 
 returns : tie.Need-returns
 unfolding finiteLeg
@@ -27,11 +14,4 @@ returns c =
     )
 
 pub leg-finite-spec : {M : Type 1} → statement M
-leg-finite-spec =
-    tie.close
-    (tie.spec
-    point-finite-requires
-    is-finite-requires
-    is-finite-requires-2
-    is-finite-requires-3
-    returns)
+leg-finite-spec = tie.close (tie.spec (λ _ _. tt) (λ _ _. tt) (λ _ _. tt) (λ _ _. tt) returns)

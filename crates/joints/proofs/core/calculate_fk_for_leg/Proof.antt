@@ -1,27 +1,13 @@
 -- `joints::core::calculate_fk_for_leg` meets its contract, call by call.
+use Rattle.legs.specs.Vectors.{plus}
 use Rattle.joints.specs.Forward.{baseAngle, femurTurn, tibiaTurn, standing}
 use Rattle.joints.specs.Degrees.{ninety, oneFifty}
-use borrow.Author.Needs.{needs}
 use Rattle.joints.proofs.core.calculate_fk_for_leg.Statement.{statement}
 use Rattle.joints.proofs.core.calculate_fk_for_leg.Tie as tie
 
-from-motor-requires : tie.Need-from-motor-requires
-from-motor-requires c κs = search needs
-
-from-motor-requires-2 : tie.Need-from-motor-requires-2
-from-motor-requires-2 c κs = search needs
-
-sine-and-cosine-requires : tie.Need-sine-and-cosine-requires
-sine-and-cosine-requires c κs = search needs
-
-sine-and-cosine-requires-2 : tie.Need-sine-and-cosine-requires-2
-sine-and-cosine-requires-2 c κs = search needs
-
-sine-and-cosine-requires-3 : tie.Need-sine-and-cosine-requires-3
-sine-and-cosine-requires-3 c κs = search needs
-
 abbrev at-tibia : tie.After-struct-known22 → tie.After-sine-and-cosine3
-at-tibia c = c .before .before .before .before .before .before .before .before .before .before .before .before .before .before .before .before
+at-tibia c =
+    c .before .before .before .before .before .before .before .before .before .before .before .before .before .before .before .before
 
 abbrev at-femur : tie.After-struct-known22 → tie.After-sine-and-cosine2
 at-femur c = at-tibia c .before .before .before .before .before
@@ -30,7 +16,7 @@ abbrev at-base : tie.After-struct-known22 → tie.After-sine-and-cosine
 at-base c = at-femur c .before
 
 returns : tie.Need-returns
-unfolding baseAngle femurTurn tibiaTurn standing ninety oneFifty
+unfolding baseAngle femurTurn tibiaTurn plus standing ninety oneFifty
 returns c =
     simp (
       at-tibia c .sine-and-cosine3 .ensures .0,
@@ -44,12 +30,4 @@ returns c =
     )
 
 pub calculate-fk-for-leg-spec : {M : Type 1} → statement M
-calculate-fk-for-leg-spec =
-    tie.close
-    (tie.spec
-    from-motor-requires
-    from-motor-requires-2
-    sine-and-cosine-requires
-    sine-and-cosine-requires-2
-    sine-and-cosine-requires-3
-    returns)
+calculate-fk-for-leg-spec = tie.close (tie.spec (λ _ _. tt) (λ _ _. tt) (λ _ _. tt) (λ _ _. tt) (λ _ _. tt) returns)

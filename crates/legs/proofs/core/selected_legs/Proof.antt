@@ -1,20 +1,21 @@
--- `legs::core::selected_legs` meets its contract: six places, pushed in row order, hold the legs that the mask names.
+-- `legs::core::selected_legs` meets its contract: six places, filled from the last leg to the first, hold the legs that the mask names.
 use Rattle.legs.proofs.Filling.{filled}
 use Rattle.legs.proofs.core.selected_legs.Statement.{statement}
 use Rattle.legs.proofs.core.selected_legs.Tie as tie
 
 returns : tie.Need-returns
 returns c =
+    let entry = c .before .before .before .before .before .before .before in
     simp (
-      c .pushed6 .ensures,
-      c .before .pushed5 .ensures,
-      c .before .before .pushed4 .ensures,
-      c .before .before .before .pushed3 .ensures,
-      c .before .before .before .before .pushed2 .ensures,
-      c .before .before .before .before .before .pushed .ensures,
+      c .headed-by6 .ensures,
+      c .before .headed-by5 .ensures,
+      c .before .before .headed-by4 .ensures,
+      c .before .before .before .headed-by3 .ensures,
+      c .before .before .before .before .headed-by2 .ensures,
+      c .before .before .before .before .before .headed-by .ensures,
       c .before .before .before .before .before .before .none-selected .ensures,
     )
-    (filled (c .before .before .before .before .before .before .before .args .feet) (c .before .before .before .before .before .before .before .args .mask))
+    (filled (entry .args .feet) (entry .args .mask))
 
 pub selected-legs-spec : {M : Type 1} → statement M
 selected-legs-spec =

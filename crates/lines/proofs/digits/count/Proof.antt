@@ -6,7 +6,7 @@ use borrow.Author.Tests.{leb-true}
 use native.Mathlib.Omega.{arith}
 use lib.ListN.{length}
 use Rattle.lines.specs.Digits.{countOf}
-use Rattle.lines.proofs.Flags.{and-left, and-right}
+use Rattle.numbers.proofs.OnePass.{and-left, and-right}
 use Rattle.lines.proofs.digits.count.Statement.{statement}
 use Rattle.lines.proofs.digits.count.Tie as tie
 
@@ -15,7 +15,9 @@ shared-slice-read-first c = leb-true 1 _ (and-left _ _ (and-left _ _ (c .before 
 
 read-in-requires : tie.Need-read-in-requires
 read-in-requires c κs =
-    let few = leb-true (length (c .before .before .before .args .s .now)) 9 (and-right (leb 1 (length (c .before .before .before .args .s .now)) && leb (length (c .before .before .before .args .s .now)) (c .before .before .before .args .limit)) _ (c .before .if1 .taken)) in
+    let few = leb-true (length (c .before .before .before .args .s .now)) 9
+    (and-right (leb 1 (length (c .before .before .before .args .s .now)) && leb (length (c .before .before .before .args .s .now))
+    (c .before .before .before .args .limit)) _ (c .before .if1 .taken)) in
     (search needs, omega arith)
 
 no-digits-requires : tie.Need-no-digits-requires

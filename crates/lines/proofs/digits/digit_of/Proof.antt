@@ -3,7 +3,7 @@ use borrow.Author.Needs.{needs}
 use borrow.Author.Tests.{leb-true}
 use native.Mathlib.Omega.{arith}
 use Rattle.lines.specs.Digits.{valueOf}
-use Rattle.lines.proofs.Flags.{and-left}
+use Rattle.numbers.proofs.OnePass.{and-left}
 use Rattle.lines.proofs.digits.digit_of.Statement.{statement}
 use Rattle.lines.proofs.digits.digit_of.Tie as tie
 

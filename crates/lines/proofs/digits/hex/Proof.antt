@@ -5,12 +5,17 @@ use lib.ListN.{length}
 use borrow.Author.Needs.{needs}
 use borrow.Author.Tests.{leb-true}
 use Rattle.lines.specs.Digits.{hexOf}
-use Rattle.lines.proofs.Flags.{and-right}
+use Rattle.numbers.proofs.OnePass.{and-right}
 use Rattle.lines.proofs.digits.hex.Statement.{statement}
 use Rattle.lines.proofs.digits.hex.Tie as tie
 
 read-in-requires : tie.Need-read-in-requires
-read-in-requires c κs = (search needs, leb-true _ 16 (and-right (leb (c .before .before .args .least) (length (c .before .before .args .s .now)) && leb (length (c .before .before .args .s .now)) (c .before .before .args .most)) _ (c .if1 .taken)))
+read-in-requires c κs = (
+  search needs,
+  leb-true _ 16
+      (and-right (leb (c .before .before .args .least) (length (c .before .before .args .s .now))
+      && leb (length (c .before .before .args .s .now)) (c .before .before .args .most)) _ (c .if1 .taken)),
+)
 
 no-digits-requires : tie.Need-no-digits-requires
 no-digits-requires c κs = search needs

@@ -35,7 +35,8 @@ loop-again : tie.Need-loop-again Inv-loop μ-loop
 loop-again c = (
   search needs,
   rw (c .pushed .ensures) (sym (read-step _ _ (c .before .before .loop-test .taken) _ _) ∙ c .before .before .before .loop .inv .1),
-  rw (c .pushed .ensures) (push-below _ _ _ _ (c .before .before .before .before .before .pre .0) (c .before .before .before .loop .inv .2)),
+  rw (c .pushed .ensures)
+      (push-below _ _ _ _ (c .before .before .before .before .before .pre .0) (c .before .before .before .loop .inv .2)),
 )
 
 returns : tie.Need-returns Inv-loop μ-loop

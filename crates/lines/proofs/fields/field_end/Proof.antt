@@ -44,7 +44,12 @@ shared-slice-read-if2 c = search needs
 
 returns : tie.Need-returns Inv-loop μ-loop Inv-loop2 μ-loop2
 returns c =
-    omega (arith, span-stop (c .before .before .before .before .before .before .before .before .args .s .now) (c .before .before .before .loop2 .i) (c .before .before .loop2-test .taken) (c .before .before .before .before .before .before .before .before .args .separator) (c .if2 .taken))
+    omega (
+      arith,
+      span-stop (c .before .before .before .before .before .before .before .before .args .s .now)
+          (c .before .before .before .loop2 .i) (c .before .before .loop2-test .taken)
+          (c .before .before .before .before .before .before .before .before .args .separator) (c .if2 .taken),
+    )
 
 add-i-2 : tie.Need-add-i-2 Inv-loop μ-loop Inv-loop2 μ-loop2
 add-i-2 c = search needs
@@ -53,12 +58,23 @@ loop2-less : tie.Need-loop2-less Inv-loop μ-loop Inv-loop2 μ-loop2
 loop2-less c = search needs
 
 loop2-again : tie.Need-loop2-again Inv-loop μ-loop Inv-loop2 μ-loop2
-loop2-again c =
-    (omega arith, omega (arith, span-step (c .before .before .before .before .before .before .before .before .args .s .now) (c .before .before .before .loop2 .i) (c .before .before .loop2-test .taken) (c .before .before .before .before .before .before .before .before .args .separator) (c .if2 .left)))
+loop2-again c = (
+  omega arith,
+  omega (
+    arith,
+    span-step (c .before .before .before .before .before .before .before .before .args .s .now)
+        (c .before .before .before .loop2 .i) (c .before .before .loop2-test .taken)
+        (c .before .before .before .before .before .before .before .before .args .separator) (c .if2 .left),
+  ),
+)
 
 returns-2 : tie.Need-returns-2 Inv-loop μ-loop Inv-loop2 μ-loop2
 returns-2 c =
-    omega (arith, span-end (c .before .before .before .before .before .before .args .s .now) (c .before .loop2 .i) (c .loop2-test .left) (c .before .before .before .before .before .before .args .separator))
+    omega (
+      arith,
+      span-end (c .before .before .before .before .before .before .args .s .now) (c .before .loop2 .i) (c .loop2-test .left)
+          (c .before .before .before .before .before .before .args .separator),
+    )
 
 pub field-end-spec : {M : Type 1} → statement M
 field-end-spec =

@@ -37,7 +37,11 @@ returns-2 : tie.Need-returns-2
 unfolding shortOf
 returns-2 c =
     let s = c .before .before .before .before .before .before .before .args .s .now in
-    simp (c .before .before .before .count .ensures, take-all (length s - 2) (drop 2 s) (simp length-drop (omega arith)), le-ltb _ 2 (c .before .before .before .before .before .if1 .left))
+    simp (
+      c .before .before .before .count .ensures,
+      take-all (length s - 2) (drop 2 s) (simp length-drop (omega arith)),
+      le-ltb _ 2 (c .before .before .before .before .before .if1 .left),
+    )
 
 pub short-of-spec : {M : Type 1} → statement M
 short-of-spec =

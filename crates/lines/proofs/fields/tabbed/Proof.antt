@@ -41,7 +41,8 @@ shared-slice-read-t11 c = search needs
 cast-t14 : tie.Need-cast-t14
 cast-t14 c = record { fits = rw (c .before .before .before .hex .ensures) (hex-fits _) }
 
-at-the-front : (s : List ℕ) (at : ℕ) (d : Digits) → d ≡ hexOf 8 8 (take (at + 9 - (at + 1)) (drop (at + 1) s)) → _≡_ {A = Field} (record { good = eqb (getD s at 0) 9 && d .good; bits = d .value }) (tabbed (drop at s))
+at-the-front : (s : List ℕ) (at : ℕ) (d : Digits) → d ≡ hexOf 8 8 (take (at + 9 - (at + 1)) (drop (at + 1) s))
+    → _≡_ {A = Field} (record { good = eqb (getD s at 0) 9 && d .good; bits = d .value }) (tabbed (drop at s))
 unfolding tabbed
 at-the-front s at d e =
     let eight : at + 9 - (at + 1) ≡ 8 = omega arith in
@@ -49,7 +50,8 @@ at-the-front s at d e =
     rw (e, eight, getD-drop at s 0 0, place, drop-drop 1 at s)
 
 returns : tie.Need-returns
-returns c = at-the-front (c .before .before .before .before .before .before .args .s .now) (c .before .before .before .before .before .before .args .at) _ (c .before .before .before .hex .ensures)
+returns c = at-the-front (c .before .before .before .before .before .before .args .s .now)
+    (c .before .before .before .before .before .before .args .at) _ (c .before .before .before .hex .ensures)
 
 pub tabbed-spec : {M : Type 1} → statement M
 tabbed-spec =

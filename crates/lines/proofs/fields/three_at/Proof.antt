@@ -22,7 +22,11 @@ tabbed-requires-3 : tie.Need-tabbed-requires-3
 tabbed-requires-3 c κs = search needs
 
 returns : tie.Need-returns
-returns c = simp (c .before .before .before .before .before .tabbed .ensures, c .before .before .before .before .tabbed2 .ensures, c .before .before .before .tabbed3 .ensures)
+returns c = simp (
+  c .before .before .before .before .before .tabbed .ensures,
+  c .before .before .before .before .tabbed2 .ensures,
+  c .before .before .before .tabbed3 .ensures,
+)
 
 pub three-at-spec : {M : Type 1} → statement M
 three-at-spec =

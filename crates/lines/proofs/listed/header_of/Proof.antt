@@ -37,7 +37,12 @@ returns-2 : tie.Need-returns-2
 unfolding headerOf
 returns-2 c =
     let s = c .before .before .before .before .before .before .before .args .s .now in
-    simp (c .before .before .named .ensures, c .before .before .before .count .ensures, take-all (length s - 12) (drop 12 s) (simp length-drop (omega arith)), le-ltb _ 12 (c .before .before .before .before .before .if1 .left))
+    simp (
+      c .before .before .named .ensures,
+      c .before .before .before .count .ensures,
+      take-all (length s - 12) (drop 12 s) (simp length-drop (omega arith)),
+      le-ltb _ 12 (c .before .before .before .before .before .if1 .left),
+    )
 
 pub header-of-spec : {M : Type 1} → statement M
 header-of-spec =

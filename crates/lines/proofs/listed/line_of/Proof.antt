@@ -24,7 +24,12 @@ known-requires c κs = search needs
 returns-2 : tie.Need-returns-2
 unfolding lineOf
 returns-2 c =
-    simp (← c .before .before .before .before .first .ensures, ne-eqb _ 77 (c .before .before .before .if1 .left), eq-eqb _ 65 (c .before .before .if2 .taken), ← c .before .short-of .ensures) (c .known .ensures)
+    simp (
+      ← c .before .before .before .before .first .ensures,
+      ne-eqb _ 77 (c .before .before .before .if1 .left),
+      eq-eqb _ 65 (c .before .before .if2 .taken),
+      ← c .before .short-of .ensures,
+    ) (c .known .ensures)
 
 short-of-requires-2 : tie.Need-short-of-requires-2
 short-of-requires-2 c κs = search needs
@@ -35,7 +40,14 @@ known-requires-2 c κs = search needs
 returns-3 : tie.Need-returns-3
 unfolding lineOf
 returns-3 c =
-    simp (← c .before .before .before .before .before .first .ensures, ne-eqb _ 77 (c .before .before .before .before .if1 .left), ne-eqb _ 65 (c .before .before .before .if2 .left), eq-eqb _ 82 (c .before .before .if3 .taken), ← c .before .short-of2 .ensures) (c .known2 .ensures)
+    simp (
+      ← c .before .before .before .before .before .first .ensures,
+      ne-eqb _ 77 (c .before .before .before .before .if1 .left),
+      ne-eqb _ 65 (c .before .before .before .if2 .left),
+      eq-eqb _ 82 (c .before .before .if3 .taken),
+      ← c .before .short-of2 .ensures,
+    )
+    (c .known2 .ensures)
 
 header-of-requires : tie.Need-header-of-requires
 header-of-requires c κs = search needs
@@ -46,7 +58,14 @@ known-requires-3 c κs = search needs
 returns-4 : tie.Need-returns-4
 unfolding lineOf
 returns-4 c =
-    simp (← c .before .before .before .before .before .first .ensures, ne-eqb _ 77 (c .before .before .before .before .if1 .left), ne-eqb _ 65 (c .before .before .before .if2 .left), ne-eqb _ 82 (c .before .before .if3 .left), ← c .before .header-of .ensures) (c .known3 .ensures)
+    simp (
+      ← c .before .before .before .before .before .first .ensures,
+      ne-eqb _ 77 (c .before .before .before .before .if1 .left),
+      ne-eqb _ 65 (c .before .before .before .if2 .left),
+      ne-eqb _ 82 (c .before .before .if3 .left),
+      ← c .before .header-of .ensures,
+    )
+    (c .known3 .ensures)
 
 pub line-of-spec : {M : Type 1} → statement M
 line-of-spec =

@@ -44,7 +44,13 @@ known-requires c κs = search needs
 
 returns-2 : tie.Need-returns-2
 returns-2 c =
-    c .known .ensures ∙ simp (c .before .before .before .before .before .before .before .count .ensures, c .before .before .before .before .before .before .three-at .ensures) (move-is (c .before .before .before .before .before .before .before .before .before .before .before .args .s .now) (c .before .before .before .before .before .before .before .before .before .before .before .args .limit) (c .before .before .before .before .before .before .before .before .before .if1 .left))
+    c .known .ensures ∙ simp (
+      c .before .before .before .before .before .before .before .count .ensures,
+      c .before .before .before .before .before .before .three-at .ensures,
+    )
+    (move-is (c .before .before .before .before .before .before .before .before .before .before .before .args .s .now)
+    (c .before .before .before .before .before .before .before .before .before .before .before .args .limit)
+    (c .before .before .before .before .before .before .before .before .before .if1 .left))
 
 pub move-of-spec : {M : Type 1} → statement M
 move-of-spec =

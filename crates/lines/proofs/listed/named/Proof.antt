@@ -37,8 +37,14 @@ loop-less : tie.Need-loop-less Inv-loop μ-loop
 loop-less c = search needs
 
 loop-again : tie.Need-loop-again Inv-loop μ-loop
-loop-again c =
-    (omega arith, c .before .before .before .loop .inv .1, rw (c .before .before .before .loop .inv .1) (sym (spells-step name (c .before .before .before .loop .i) (c .before .before .loop-test .taken) (c .before .before .before .loop .good) (c .before .before .before .before .before .args .s .now)) ∙ c .before .before .before .loop .inv .2))
+loop-again c = (
+  omega arith,
+  c .before .before .before .loop .inv .1,
+  rw (c .before .before .before .loop .inv .1)
+      (sym (spells-step name (c .before .before .before .loop .i) (c .before .before .loop-test .taken)
+      (c .before .before .before .loop .good) (c .before .before .before .before .before .args .s .now))
+      ∙ c .before .before .before .loop .inv .2),
+)
 
 returns : tie.Need-returns Inv-loop μ-loop
 unfolding named

@@ -18,23 +18,68 @@ count-requires : tie.Need-count-requires
 count-requires c κs = omega (arith, length-at-most 9 (c .before .before .before .before .before .before .args .m .count) (omega arith))
 
 pattern-requires : tie.Need-pattern-requires
-pattern-requires c κs = omega (arith, length-at-most 9 (c .before .before .before .before .before .before .before .before .before .before .args .m .count) (omega arith))
+pattern-requires c κs =
+    omega (
+      arith,
+      length-at-most 9 (c .before .before .before .before .before .before .before .before .before .before .args .m .count)
+          (omega arith),
+    )
 
 pattern-requires-2 : tie.Need-pattern-requires-2
-pattern-requires-2 c κs = omega (arith, length-at-most 9 (c .before .before .before .before .before .before .before .before .before .before .before .before .before .before .args .m .count) (omega arith), length-hex (c .before .before .before .before .before .before .before .before .before .before .before .before .before .before .args .m .x))
+pattern-requires-2 c κs =
+    omega (
+      arith,
+      length-at-most 9
+          (c .before .before .before .before .before .before .before .before .before .before .before .before .before .before .args .m
+          .count)
+          (omega arith),
+      length-hex
+          (c .before .before .before .before .before .before .before .before .before .before .before .before .before .before .args .m .x),
+    )
 
 pattern-requires-3 : tie.Need-pattern-requires-3
-pattern-requires-3 c κs = omega (arith, length-at-most 9 (c .before .before .before .before .before .before .before .before .before .before .before .before .before .before .before .before .before .before .args .m .count) (omega arith), length-hex (c .before .before .before .before .before .before .before .before .before .before .before .before .before .before .before .before .before .before .args .m .x), length-hex (c .before .before .before .before .before .before .before .before .before .before .before .before .before .before .before .before .before .before .args .m .y))
+pattern-requires-3 c κs =
+    omega (
+      arith,
+      length-at-most 9
+          (c .before .before .before .before .before .before .before .before .before .before .before .before .before .before .before .before
+          .before .before .args .m .count) (omega arith),
+      length-hex (c .before .before .before .before .before .before .before .before .before .before .before .before .before .before .before
+          .before .before .before .args .m .x),
+      length-hex (c .before .before .before .before .before .before .before .before .before .before .before .before .before .before .before
+          .before .before .before .args .m .y),
+    )
 
 newline-requires : tie.Need-newline-requires
-newline-requires c κs = omega (arith, length-at-most 9 (c .before .before .before .before .before .before .before .before .before .before .before .before .before .before .before .before .before .before .before .before .before .before .args .m .count) (omega arith), length-hex (c .before .before .before .before .before .before .before .before .before .before .before .before .before .before .before .before .before .before .before .before .before .before .args .m .x), length-hex (c .before .before .before .before .before .before .before .before .before .before .before .before .before .before .before .before .before .before .before .before .before .before .args .m .y), length-hex (c .before .before .before .before .before .before .before .before .before .before .before .before .before .before .before .before .before .before .before .before .before .before .args .m .z))
+newline-requires c κs =
+    omega (
+      arith,
+      length-at-most 9
+          (c .before .before .before .before .before .before .before .before .before .before .before .before .before .before .before .before
+          .before .before .before .before .before .before .args .m .count) (omega arith),
+      length-hex (c .before .before .before .before .before .before .before .before .before .before .before .before .before .before .before
+          .before .before .before .before .before .before .before .args .m .x),
+      length-hex (c .before .before .before .before .before .before .before .before .before .before .before .before .before .before .before
+          .before .before .before .before .before .before .before .args .m .y),
+      length-hex (c .before .before .before .before .before .before .before .before .before .before .before .before .before .before .before
+          .before .before .before .before .before .before .before .args .m .z),
+    )
 
 same-length : tie.Need-same-length
 same-length c = search needs
 
 returns : tie.Need-returns
 unfolding parted body
-returns c = stored-as (simp append-assoc) (stored-more (stored-more (stored-more (stored-more (stored-more (c .before .before .before .before .before .before .before .before .before .before .before .before .before .before .before .before .before .before .before .before .before .before .letter .ensures) (c .before .before .before .before .before .before .before .before .before .before .before .before .before .before .before .before .before .before .count .ensures)) (c .before .before .before .before .before .before .before .before .before .before .before .before .before .before .pattern .ensures)) (c .before .before .before .before .before .before .before .before .before .before .pattern2 .ensures)) (c .before .before .before .before .before .before .pattern3 .ensures)) (c .before .before .newline .ensures))
+returns c = stored-as (simp append-assoc)
+    (stored-more (stored-more
+    (stored-more (stored-more
+    (stored-more (c .before .before .before .before .before .before .before .before .before .before .before .before .before .before .before
+    .before .before .before .before .before .before .before .letter .ensures)
+    (c .before .before .before .before .before .before .before .before .before .before .before .before .before .before .before .before
+    .before .before .count .ensures))
+    (c .before .before .before .before .before .before .before .before .before .before .before .before .before .before .pattern .ensures))
+    (c .before .before .before .before .before .before .before .before .before .before .pattern2 .ensures))
+    (c .before .before .before .before .before .before .pattern3 .ensures)) (c .before .before .newline .ensures))
 
 pub put-move-spec : {M : Type 1} → statement M
 put-move-spec =

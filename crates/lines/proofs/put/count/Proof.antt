@@ -15,7 +15,8 @@ use Rattle.lines.proofs.put.count.Tie as tie
 
 abbrev Inv-loop : tie.InvT-loop
 Inv-loop buf₀ at n end j₀ m₀ buf j m =
-    (sets buf at (decimal m) ≡ sets buf₀ at (decimal n)) × (j + 1 ≡ at + length (decimal m)) × (length (decimal m) ≤ length (decimal n)) × (length buf ≡ length buf₀)
+    (sets buf at (decimal m) ≡ sets buf₀ at (decimal n)) × (j + 1 ≡ at + length (decimal m)) × (length (decimal m) ≤ length (decimal n))
+    × (length buf ≡ length buf₀)
 
 abbrev μ-loop : tie.MeasureT-loop
 μ-loop buf₀ at n end j₀ m₀ buf j m = m
@@ -39,13 +40,18 @@ slice-write-buf : tie.Need-slice-write-buf Inv-loop μ-loop
 slice-write-buf c = omega arith
 
 sub-j-2 : tie.Need-sub-j-2 Inv-loop μ-loop
-sub-j-2 c = omega (arith, length-more (c .before .before .loop .m) (c .before .loop-test .taken), length-positive (c .before .before .loop .m / 10))
+sub-j-2 c = omega (
+  arith,
+  length-more (c .before .before .loop .m) (c .before .loop-test .taken),
+  length-positive (c .before .before .loop .m / 10),
+)
 
 loop-less : tie.Need-loop-less Inv-loop μ-loop
 loop-less c = omega arith
 
 -- the last digit of m, stored behind the digits of its tenth
-last-digit : (buf buf₀ : List ℕ) (at n m j b : ℕ) → 10 ≤ m → b ≡ digit (m % 10 % 16) → j + 1 ≡ at + length (decimal m) → sets buf at (decimal m) ≡ sets buf₀ at (decimal n) → sets (set buf j b) at (decimal (m / 10)) ≡ sets buf₀ at (decimal n)
+last-digit : (buf buf₀ : List ℕ) (at n m j b : ℕ) → 10 ≤ m → b ≡ digit (m % 10 % 16) → j + 1 ≡ at + length (decimal m)
+    → sets buf at (decimal m) ≡ sets buf₀ at (decimal n) → sets (set buf j b) at (decimal (m / 10)) ≡ sets buf₀ at (decimal n)
 last-digit buf buf₀ at n m j b many is place same =
     let e : m % 10 % 16 ≡ m % 10 = mod-eq-of-lt (omega arith) in
     last-stored-first buf at (decimal (m / 10)) j b (omega (arith, length-more m many))
@@ -55,7 +61,8 @@ last-digit buf buf₀ at n m j b many is place same =
 
 loop-again : tie.Need-loop-again Inv-loop μ-loop
 loop-again c = (
-  last-digit _ _ _ _ _ _ _ (c .before .loop-test .taken) (c .digit .ensures) (c .before .before .loop .inv .1) (c .before .before .loop .inv .0),
+  last-digit _ _ _ _ _ _ _ (c .before .loop-test .taken) (c .digit .ensures) (c .before .before .loop .inv .1)
+      (c .before .before .loop .inv .0),
   omega (arith, length-more (c .before .before .loop .m) (c .before .loop-test .taken), length-positive (c .before .before .loop .m / 10)),
   omega (arith, length-more (c .before .before .loop .m) (c .before .loop-test .taken)),
   simp length-set (c .before .before .loop .inv .3),
@@ -71,7 +78,8 @@ same-length : tie.Need-same-length Inv-loop μ-loop
 same-length c = simp length-set (c .before .before .loop .inv .3)
 
 -- the first digit, at the first place
-first-digit : (buf buf₀ : List ℕ) (at n m j b : ℕ) → m ≤ 9 → b ≡ digit (m % 16) → j + 1 ≡ at + length (decimal m) → sets buf at (decimal m) ≡ sets buf₀ at (decimal n) → set buf j b ≡ sets buf₀ at (decimal n)
+first-digit : (buf buf₀ : List ℕ) (at n m j b : ℕ) → m ≤ 9 → b ≡ digit (m % 16) → j + 1 ≡ at + length (decimal m)
+    → sets buf at (decimal m) ≡ sets buf₀ at (decimal n) → set buf j b ≡ sets buf₀ at (decimal n)
 first-digit buf buf₀ at n m j b few is place same =
     let e : m % 16 ≡ m = mod-eq-of-lt (omega arith) in
     let k : j ≡ at = omega (arith, length-few m (omega arith)) in
@@ -84,7 +92,8 @@ returns : tie.Need-returns Inv-loop μ-loop
 returns c =
     record {
       place = omega arith;
-      bytes = first-digit _ _ _ _ _ _ _ (c .before .loop-test .left) (c .digit2 .ensures) (c .before .before .loop .inv .1) (c .before .before .loop .inv .0);
+      bytes = first-digit _ _ _ _ _ _ _ (c .before .loop-test .left) (c .digit2 .ensures) (c .before .before .loop .inv .1)
+          (c .before .before .loop .inv .0);
     }
 
 pub count-spec : {M : Type 1} → statement M

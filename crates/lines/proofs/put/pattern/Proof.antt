@@ -91,7 +91,20 @@ same-length c = simp length-set
 
 returns : tie.Need-returns
 unfolding hex numeral
-returns c = record { place = refl; bytes = simp (c .digit8 .ensures, c .before .digit7 .ensures, c .before .before .digit6 .ensures, c .before .before .before .digit5 .ensures, c .before .before .before .before .digit4 .ensures, c .before .before .before .before .before .digit3 .ensures, c .before .before .before .before .before .before .digit2 .ensures, c .before .before .before .before .before .before .before .digit .ensures, towards-suc) }
+returns c = record {
+  place = refl;
+  bytes = simp (
+    c .digit8 .ensures,
+    c .before .digit7 .ensures,
+    c .before .before .digit6 .ensures,
+    c .before .before .before .digit5 .ensures,
+    c .before .before .before .before .digit4 .ensures,
+    c .before .before .before .before .before .digit3 .ensures,
+    c .before .before .before .before .before .before .digit2 .ensures,
+    c .before .before .before .before .before .before .before .digit .ensures,
+    towards-suc,
+  );
+}
 
 pub pattern-spec : {M : Type 1} → statement M
 pattern-spec =

@@ -30,12 +30,28 @@ walk-of-requires c κs = search needs
 returns-2 : tie.Need-returns-2
 returns-2 c =
     ap Record (c .walk-of .ensures)
-    ∙ simp (c .before .before .before .before .before .before .before .before .tabbed .ensures, c .before .before .before .before .before .before .before .three-at .ensures, c .before .before .before .before .before .before .three-at2 .ensures)
-    (record-yes (c .before .before .before .before .before .before .before .before .before .before .before .args .s .now) (c .before .before .before .before .before .before .before .before .before .if1 .left) (simp (c .before .before .before .before .before .before .before .before .tabbed .ensures, c .before .before .before .before .before .before .before .three-at .ensures, c .before .before .before .before .before .before .three-at2 .ensures) at (c .before .if2 .taken)))
+    ∙ simp (
+      c .before .before .before .before .before .before .before .before .tabbed .ensures,
+      c .before .before .before .before .before .before .before .three-at .ensures,
+      c .before .before .before .before .before .before .three-at2 .ensures,
+    )
+    (record-yes (c .before .before .before .before .before .before .before .before .before .before .before .args .s .now)
+    (c .before .before .before .before .before .before .before .before .before .if1 .left)
+    (simp (
+      c .before .before .before .before .before .before .before .before .tabbed .ensures,
+      c .before .before .before .before .before .before .before .three-at .ensures,
+      c .before .before .before .before .before .before .three-at2 .ensures,
+    ) at (c .before .if2 .taken)))
 
 returns-3 : tie.Need-returns-3
 returns-3 c =
-    record-no (c .before .before .before .before .before .before .before .before .before .before .args .s .now) (c .before .before .before .before .before .before .before .before .if1 .left) (simp (c .before .before .before .before .before .before .before .tabbed .ensures, c .before .before .before .before .before .before .three-at .ensures, c .before .before .before .before .before .three-at2 .ensures) at (c .if2 .left))
+    record-no (c .before .before .before .before .before .before .before .before .before .before .args .s .now)
+    (c .before .before .before .before .before .before .before .before .if1 .left)
+    (simp (
+      c .before .before .before .before .before .before .before .tabbed .ensures,
+      c .before .before .before .before .before .before .three-at .ensures,
+      c .before .before .before .before .before .three-at2 .ensures,
+    ) at (c .if2 .left))
 
 pub record-of-spec : {M : Type 1} → statement M
 record-of-spec =

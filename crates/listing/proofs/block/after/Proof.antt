@@ -16,11 +16,19 @@ point-of-requires : tie.Need-point-of-requires
 point-of-requires c κs = search needs
 
 add-t9 : tie.Need-add-t9
-add-t9 c = record { fits = made-fits _ _ _ (sym (c .before .before .before .before .moves-on .ensures) ∙ c .before .before .before .if1 .taken) }
+add-t9 c = record {
+  fits = made-fits _ _ _
+      (sym (c .before .before .before .before .moves-on .ensures) ∙ c .before .before .before .if1 .taken);
+}
 
 returns : tie.Need-returns
 unfolding afterOf
-returns c = simp (← c .before .before .before .before .moves-on .ensures, c .before .before .before .if1 .taken, c .before .point-of .ensures, c .before .before .move-towards .ensures)
+returns c = simp (
+  ← c .before .before .before .before .moves-on .ensures,
+  c .before .before .before .if1 .taken,
+  c .before .point-of .ensures,
+  c .before .before .move-towards .ensures,
+)
 
 returns-2 : tie.Need-returns-2
 unfolding afterOf

@@ -31,14 +31,23 @@ put-line-requires c κs = search needs
 
 loop-less : tie.Need-loop-less Inv-loop μ-loop
 loop-less c =
-    let test = sym (c .before .before .before .before .before .before .before .goes-on .ensures) ∙ c .before .before .before .before .before .before .if1 .taken in
-    fewer-after (c .before .before .before .before .before .before .before .before .loop .r) (c .before .before .before .before .before .after .result) (is-going _ _ test) (c .before .before .before .before .before .after .ensures)
+    let test = sym (c .before .before .before .before .before .before .before .goes-on .ensures)
+    ∙ c .before .before .before .before .before .before .if1 .taken in
+    fewer-after (c .before .before .before .before .before .before .before .before .loop .r)
+    (c .before .before .before .before .before .after .result) (is-going _ _ test)
+    (c .before .before .before .before .before .after .ensures)
 
 loop-again : tie.Need-loop-again Inv-loop μ-loop
 loop-again c =
-    let test = sym (c .before .before .before .before .before .before .before .goes-on .ensures) ∙ c .before .before .before .before .before .before .if1 .taken in (
+    let test = sym (c .before .before .before .before .before .before .before .goes-on .ensures)
+    ∙ c .before .before .before .before .before .before .if1 .taken in (
       search needs,
-      part-more (c .before .before .before .before .before .before .before .before .loop .r) (c .before .before .before .before .before .after .result) (c .before .before .before .line .result) (c .before .before .before .before .before .before .before .before .loop .inv .1) (is-going _ _ test) (is-fit (c .before .before .before .before .before .before .before .before .loop .r .done) _ test) (c .before .before .before .before .before .after .ensures) (c .before .before .before .line .ensures) (c .before .before .put-line .ensures),
+      part-more (c .before .before .before .before .before .before .before .before .loop .r)
+          (c .before .before .before .before .before .after .result) (c .before .before .before .line .result)
+          (c .before .before .before .before .before .before .before .before .loop .inv .1) (is-going _ _ test)
+          (is-fit (c .before .before .before .before .before .before .before .before .loop .r .done) _ test)
+          (c .before .before .before .before .before .after .ensures) (c .before .before .before .line .ensures)
+          (c .before .before .put-line .ensures),
     )
 
 same-length : tie.Need-same-length Inv-loop μ-loop

@@ -20,7 +20,8 @@ refusal-requires c κs = search needs
 returns : tie.Need-returns
 returns c =
     walk-printed _ _ _ _ _ (c .before .before .before .point-of .ensures) (c .before .before .point-of2 .ensures)
-    (search needs) (search needs, search needs, search needs) (search needs, search needs, search needs) (sym (c .before .walk-refused .ensures) ∙ c .if1 .taken)
+    (search needs) (search needs, search needs, search needs) (search needs, search needs, search needs)
+    (sym (c .before .walk-refused .ensures) ∙ c .if1 .taken)
 
 returns-2 : tie.Need-returns-2
 returns-2 c =

@@ -37,7 +37,10 @@ returns-2 c =
     let row = c .before .before .before .before .before .before .args .c .bytes in
     let full : length row ≡ 128 = search needs in
     let none : c .before .before .before .before .kept .result - 0 ≡ c .before .before .before .before .kept .result = omega arith in
-    simp (c .before .before .before .before .before .if1 .left) (c .record-of .ensures ∙ ap (λ (k : ℕ). recordOf (take k row)) none ∙ ap recordOf (sym (take-kept row (c .before .before .before .before .before .before .args .c .len) (c .before .before .before .before .kept .result) full (c .before .before .before .before .kept .ensures))))
+    simp (c .before .before .before .before .before .if1 .left)
+    (c .record-of .ensures ∙ ap (λ (k : ℕ). recordOf (take k row)) none
+    ∙ ap recordOf (sym (take-kept row (c .before .before .before .before .before .before .args .c .len)
+    (c .before .before .before .before .kept .result) full (c .before .before .before .before .kept .ensures))))
 
 pub asked-spec : {M : Type 1} → statement M
 asked-spec =

@@ -24,7 +24,9 @@ returns c = c .asked .ensures ∙ ap asks (c .before .more .ensures)
 returns-2 : tie.Need-returns-2
 returns-2 c =
     c .record-of .ensures
-    ∙ sym (asks-now (c .before .before .before .before .args .c .overlong) (c .before .before .before .before .args .c .len) (c .before .before .before .before .args .c .bytes) (c .before .before .before .before .args .s .now) (sym (c .before .before .has-begun .ensures) ∙ c .before .if1 .left))
+    ∙ sym (asks-now (c .before .before .before .before .args .c .overlong) (c .before .before .before .before .args .c .len)
+    (c .before .before .before .before .args .c .bytes) (c .before .before .before .before .args .s .now)
+    (sym (c .before .before .has-begun .ensures) ∙ c .before .if1 .left))
 
 pub finished-spec : {M : Type 1} → statement M
 finished-spec =

@@ -26,7 +26,9 @@ overlong-requires : tie.Need-overlong-requires Inv-loop μ-loop
 overlong-requires c κs = search needs
 
 returns : tie.Need-returns Inv-loop μ-loop
-returns c = c .overlong .ensures ∙ sym (keep-over (held (c .before .before .before .before .args .c)) (c .before .before .before .before .args .s .now) (c .before .if1 .taken))
+returns c = c .overlong .ensures
+    ∙ sym (keep-over (held (c .before .before .before .before .args .c)) (c .before .before .before .before .args .s .now)
+    (c .before .if1 .taken))
 
 sub-if2 : tie.Need-sub-if2 Inv-loop μ-loop
 sub-if2 c = omega arith
@@ -38,8 +40,12 @@ returns-2 : tie.Need-returns-2 Inv-loop μ-loop
 returns-2 c =
     let row = c .before .before .before .before .before .args .c .bytes in
     let full : length row ≡ 128 = search needs in
-    let kept : length (take (c .before .before .before .before .before .args .c .len) row) ≡ c .before .before .before .kept .result = length-kept row (c .before .before .before .before .before .args .c .len) (c .before .before .before .kept .result) full (c .before .before .before .kept .ensures) in
-    c .overlong2 .ensures ∙ sym (keep-long (held (c .before .before .before .before .before .args .c)) (c .before .before .before .before .before .args .s .now) (c .before .before .if1 .left) (omega arith))
+    let kept : length (take (c .before .before .before .before .before .args .c .len) row) ≡ c .before .before .before .kept .result =
+    length-kept row (c .before .before .before .before .before .args .c .len) (c .before .before .before .kept .result) full
+    (c .before .before .before .kept .ensures) in
+    c .overlong2 .ensures
+    ∙ sym (keep-long (held (c .before .before .before .before .before .args .c))
+    (c .before .before .before .before .before .args .s .now) (c .before .before .if1 .left) (omega arith))
 
 loop-holds : tie.Need-loop-holds Inv-loop μ-loop
 loop-holds c = (search needs, simp (add-zero, append-nil), refl)
@@ -75,20 +81,30 @@ abbrev short : List ℕ → Held
 short t = record { overlong = false; text = t }
 
 -- with every byte copied, the row holds what was kept and the bytes
-copied : (h : Held) (s row : List ℕ) (n i : ℕ) → i ≡ length s → (row₀ : List ℕ) → h .text ≡ take n row₀ → take (n + i) row ≡ take n row₀ ++ take i s → short (take (n + length s) row) ≡ short (h .text ++ s)
+copied : (h : Held) (s row : List ℕ) (n i : ℕ) → i ≡ length s → (row₀ : List ℕ) → h .text ≡ take n row₀
+    → take (n + i) row ≡ take n row₀ ++ take i s → short (take (n + length s) row) ≡ short (h .text ++ s)
 copied h s row n i end row₀ text was =
     ap short
-    (ap (λ (k : ℕ). take (n + k) row) (sym end) ∙ was ∙ ap (λ (k : ℕ). take n row₀ ++ take k s) end ∙ ap (λ (t : List ℕ). take n row₀ ++ t) (take-length s) ∙ ap (λ (t : List ℕ). t ++ s) (sym text))
+    (ap (λ (k : ℕ). take (n + k) row) (sym end) ∙ was ∙ ap (λ (k : ℕ). take n row₀ ++ take k s) end
+    ∙ ap (λ (t : List ℕ). take n row₀ ++ t) (take-length s) ∙ ap (λ (t : List ℕ). t ++ s) (sym text))
 
 returns-3 : tie.Need-returns-3 Inv-loop μ-loop
 returns-3 c =
     let row = c .before .before .before .before .before .before .before .args .c .bytes in
     let s = c .before .before .before .before .before .before .before .args .s .now in
     let full : length row ≡ 128 = search needs in
-    let kept : length (take (c .before .before .before .before .before .before .before .args .c .len) row) ≡ c .before .before .before .before .before .kept .result = length-kept row (c .before .before .before .before .before .before .before .args .c .len) (c .before .before .before .before .before .kept .result) full (c .before .before .before .before .before .kept .ensures) in
+    let kept : length (take (c .before .before .before .before .before .before .before .args .c .len) row)
+    ≡ c .before .before .before .before .before .kept .result =
+    length-kept row (c .before .before .before .before .before .before .before .args .c .len)
+    (c .before .before .before .before .before .kept .result) full (c .before .before .before .before .before .kept .ensures) in
     let end : c .before .loop .i ≡ length s = omega arith in
-    copied (held (c .before .before .before .before .before .before .before .args .c)) s (c .before .loop .bytes) (c .before .before .before .before .before .kept .result) (c .before .loop .i) end row (take-kept row (c .before .before .before .before .before .before .before .args .c .len) (c .before .before .before .before .before .kept .result) full (c .before .before .before .before .before .kept .ensures)) (c .before .loop .inv .1)
-    ∙ sym (keep-short (held (c .before .before .before .before .before .before .before .args .c)) s (c .before .before .before .before .if1 .left) (omega arith))
+    copied (held (c .before .before .before .before .before .before .before .args .c)) s (c .before .loop .bytes)
+    (c .before .before .before .before .before .kept .result) (c .before .loop .i) end row
+    (take-kept row (c .before .before .before .before .before .before .before .args .c .len)
+    (c .before .before .before .before .before .kept .result) full (c .before .before .before .before .before .kept .ensures))
+    (c .before .loop .inv .1)
+    ∙ sym (keep-short (held (c .before .before .before .before .before .before .before .args .c)) s
+    (c .before .before .before .before .if1 .left) (omega arith))
 
 pub more-spec : {M : Type 1} → statement M
 more-spec =

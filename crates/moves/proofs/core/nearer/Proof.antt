@@ -1,11 +1,7 @@
 -- `moves::core::nearer` meets its contract, by its one test.
 use Rattle.moves.specs.Moving.{nearer}
-use borrow.Author.Needs.{needs}
 use Rattle.moves.proofs.core.nearer.Statement.{statement}
 use Rattle.moves.proofs.core.nearer.Tie as tie
-
-along-requires : tie.Need-along-requires
-along-requires c κs = search needs
 
 returns : tie.Need-returns
 unfolding nearer
@@ -16,4 +12,4 @@ unfolding nearer
 returns-2 c = simp (c .before .if1 .left, c .along .ensures)
 
 pub nearer-spec : {M : Type 1} → statement M
-nearer-spec = tie.close (tie.spec along-requires returns returns-2)
+nearer-spec = tie.close (tie.spec (λ _ _. tt) returns returns-2)

@@ -4,9 +4,6 @@ use borrow.Author.Needs.{needs}
 use Rattle.moves.proofs.core.next_feet.Statement.{statement}
 use Rattle.moves.proofs.core.next_feet.Tie as tie
 
-move-feet-towards-requires : tie.Need-move-feet-towards-requires
-move-feet-towards-requires c κs = search needs
-
 enum-known-step : tie.Need-enum-known-step
 enum-known-step c = search needs
 
@@ -22,5 +19,4 @@ unfolding nextFeet
 returns-2 c = simp (← c .before .before .move-feet-towards .ensures, c .enum-told .given .1)
 
 pub next-feet-spec : {M : Type 1} → statement M
-next-feet-spec =
-    tie.close (tie.spec move-feet-towards-requires enum-known-step enum-told returns returns-2)
+next-feet-spec = tie.close (tie.spec (λ _ _. tt) enum-known-step enum-told returns returns-2)

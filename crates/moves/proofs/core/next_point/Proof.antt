@@ -4,9 +4,6 @@ use borrow.Author.Needs.{needs}
 use Rattle.moves.proofs.core.next_point.Statement.{statement}
 use Rattle.moves.proofs.core.next_point.Tie as tie
 
-move-towards-requires : tie.Need-move-towards-requires
-move-towards-requires c κs = search needs
-
 enum-known-step : tie.Need-enum-known-step
 enum-known-step c = search needs
 
@@ -22,5 +19,4 @@ unfolding nextPoint
 returns-2 c = simp (← c .before .before .move-towards .ensures, c .enum-told .given .1)
 
 pub next-point-spec : {M : Type 1} → statement M
-next-point-spec =
-    tie.close (tie.spec move-towards-requires enum-known-step enum-told returns returns-2)
+next-point-spec = tie.close (tie.spec (λ _ _. tt) enum-known-step enum-told returns returns-2)

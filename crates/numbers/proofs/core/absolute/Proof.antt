@@ -1,4 +1,5 @@
--- `numbers::core::absolute` meets its contract. By the form of x: a zero loses its sign, a negative number is turned round, any other stays.
+-- `numbers::core::absolute` meets its contract. By the form of x: a zero loses its sign, a negative number is turned round,
+-- any other stays.
 use mathlib.Core.Path.{sym, subst}
 use lib.Dec.{T}
 use Rattle.numbers.proofs.Signs.{zero-magnitude, negative-magnitude, other-magnitude}

@@ -1,9 +1,10 @@
 -- `numbers::patterns::pattern_of` meets its contract: only a NaN differs from itself.
-use mathlib.Core.Path.{_≡_, refl, sym}
+use mathlib.Core.Path.{_≡_, refl, sym, ap}
 use mathlib.Core.Bool.{true, false, not}
 use lib.Dec.{T}
 use lib.Ieee.{Float, nan, inf, fin, binary32, toBits, isNan, eq, ne}
 use lib.Ieee.Compare.{differs-from-itself}
+use Rattle.numbers.specs.Answers.{toldPattern}
 use Rattle.numbers.specs.Patterns.{patternOf}
 use Rattle.numbers.specs.declared.patterns.Pattern.{Pattern}
 use Rattle.numbers.specs.declared.patterns.Pattern.the-variants.{Bits, NotANumber}
@@ -25,10 +26,10 @@ float-to-bits-t4 : tie.Need-float-to-bits-t4
 float-to-bits-t4 c = same-no-nan (c .before .args .x) (c .if1 .taken)
 
 returns : tie.Need-returns
-returns c = a-number (c .before .args .x) (same-no-nan (c .before .args .x) (c .if1 .taken))
+returns c = ap toldPattern (a-number (c .before .args .x) (same-no-nan (c .before .args .x) (c .if1 .taken)))
 
 returns-2 : tie.Need-returns-2
-returns-2 c = no-number (c .before .args .x) (c .if1 .left)
+returns-2 c = ap toldPattern (no-number (c .before .args .x) (c .if1 .left))
 
 pub pattern-of-spec : {M : Type 1} → statement M
 pattern-of-spec = tie.close (tie.spec float-to-bits-t4 returns returns-2)

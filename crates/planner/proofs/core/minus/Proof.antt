@@ -1,5 +1,5 @@
 -- `planner::core::minus` meets its contract, coordinate by coordinate.
-use Rattle.planner.specs.Plan.{minus}
+use Rattle.legs.specs.Vectors.{minus}
 use mathlib.Core.Path.{refl}
 use Rattle.planner.proofs.core.minus.Statement.{statement}
 use Rattle.planner.proofs.core.minus.Tie as tie

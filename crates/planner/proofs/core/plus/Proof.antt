@@ -1,5 +1,5 @@
 -- `planner::core::plus` meets its contract, coordinate by coordinate.
-use Rattle.planner.specs.Plan.{plus}
+use Rattle.legs.specs.Vectors.{plus}
 use mathlib.Core.Path.{refl}
 use Rattle.planner.proofs.core.plus.Statement.{statement}
 use Rattle.planner.proofs.core.plus.Tie as tie

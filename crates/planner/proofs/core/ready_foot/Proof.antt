@@ -12,5 +12,4 @@ unfolding readyFoot
 returns-2 c = simp (c .minus .ensures, c .before .plus2 .ensures, c .before .before .if1 .left)
 
 pub ready-foot-spec : {M : Type 1} → statement M
-ready-foot-spec =
-    tie.close (tie.spec (λ _ _. tt) (λ _ _. tt) (λ _ _. tt) returns returns-2)
+ready-foot-spec = tie.close (tie.spec (λ _ _. tt) (λ _ _. tt) (λ _ _. tt) returns returns-2)

@@ -7,44 +7,34 @@ use Rattle.planner.proofs.core.step_with_relaxed_transformation.Tie as 
 
 returns : tie.Need-returns
 returns c =
+    let d = c .before .before .before .before .before .before .before .before .before in
+    let e = d .before .before .before in
+    let a = e .before .before .before .before .before .args in
     simp (
       nought-bits,
       two-bits,
-      c .turned-feet .ensures,
+      c .applied-feet .ensures,
       c .before .ready-feet .ensures,
       c .before .before .turn2 .ensures,
       c .before .before .before .chosen2 .ensures,
       c .before .before .before .before .turn .ensures,
       c .before .before .before .before .before .chosen .ensures,
       c .before .before .before .before .before .before .is-lrl .ensures,
-      c .before .before .before .before .before .before .before .before .before .average-turn .ensures,
-      c .before .before .before .before .before .before .before .before .before .before .in-row2 .ensures,
-      c .before .before .before .before .before .before .before .before .before .before .before .in-row .ensures,
-      c .before .before .before .before .before .before .before .before .before .before .before .before .between .ensures,
-      c .before .before .before .before .before .before .before .before .before .before .before .before .before .centre2 .ensures,
-      c .before .before .before .before .before .before .before .before .before .before .before .before .before .before .summed2 .ensures,
-      c .before .before .before .before .before .before .before .before .before .before .before .before .before .before .before .centre .ensures,
-      c .before .before .before .before .before .before .before .before .before .before .before .before .before .before .before .before .summed .ensures,
+      d .average-rotation .ensures,
+      d .before .in-row2 .ensures,
+      d .before .before .in-row .ensures,
+      e .between .ensures,
+      e .before .center-point2 .ensures,
+      e .before .before .summed2 .ensures,
+      e .before .before .before .center-point .ensures,
+      e .before .before .before .before .summed .ensures,
     )
-    (let given = c .before .before .before .before .before .before .before .before .before .before .before .before .before .before .before .before .before .args in together (given .start) (given .relaxed) (given .lifted-tripod) (given .command))
+    (together (a .start) (a .relaxed) (a .lifted-tripod) (a .command))
 
 pub step-with-relaxed-transformation-spec : {M : Type 1} → statement M
 step-with-relaxed-transformation-spec =
     tie.close
     (tie.spec
-    (λ _ _. tt)
-    (λ _ _. tt)
-    (λ _ _. tt)
-    (λ _ _. tt)
-    (λ _ _. tt)
-    (λ _ _. tt)
-    (λ _ _. tt)
-    (λ _ _. tt)
-    (λ _ _. tt)
-    (λ _ _. tt)
-    (λ _ _. tt)
-    (λ _ _. tt)
-    (λ _ _. tt)
-    (λ _ _. tt)
-    (λ _ _. tt)
+    (λ _ _. tt) (λ _ _. tt) (λ _ _. tt) (λ _ _. tt) (λ _ _. tt) (λ _ _. tt) (λ _ _. tt) (λ _ _. tt) (λ _ _. tt) (λ _ _. tt)
+    (λ _ _. tt) (λ _ _. tt) (λ _ _. tt) (λ _ _. tt) (λ _ _. tt)
     returns)

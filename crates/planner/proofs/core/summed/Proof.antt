@@ -3,12 +3,6 @@ use borrow.Author.Needs.{needs}
 use Rattle.planner.proofs.core.summed.Statement.{statement}
 use Rattle.planner.proofs.core.summed.Tie as tie
 
-enum-told : tie.Need-enum-told
-enum-told c = search needs
-
-enum-told-2 : tie.Need-enum-told-2
-enum-told-2 c = search needs
-
 returns : tie.Need-returns
 returns c = simp (c .before .enum-told .given .1, c .three .ensures)
 
@@ -16,5 +10,4 @@ returns-2 : tie.Need-returns-2
 returns-2 c = simp (c .before .enum-told2 .given .1, c .three2 .ensures)
 
 pub summed-spec : {M : Type 1} → statement M
-summed-spec =
-    tie.close (tie.spec enum-told (λ _ _. tt) enum-told-2 (λ _ _. tt) returns returns-2)
+summed-spec = tie.close (tie.spec (λ c. search needs) (λ _ _. tt) (λ c. search needs) (λ _ _. tt) returns returns-2)

@@ -6,10 +6,13 @@ use Rattle.replay.proofs.input.run.Statement.{statement}
 use Rattle.replay.proofs.input.run.Tie as tie
 
 abbrev Inv-loop : tie.InvT-loop
-Inv-loop line₀ chunk₀ r₀ turns₀ line chunk r turns = (4096 ≡ length line) × (4096 ≡ length chunk)
+Inv-loop kept₀ chunk₀ len₀ turns₀ kept chunk len turns = (4097 ≡ length kept) × (4096 ≡ length chunk)
 
 abbrev μ-loop : tie.MeasureT-loop
-μ-loop line₀ chunk₀ r₀ turns₀ line chunk r turns = turns
+μ-loop kept₀ chunk₀ len₀ turns₀ kept chunk len turns = turns
+
+buffer-requires : tie.Need-buffer-requires Inv-loop μ-loop
+buffer-requires c κs = search needs
 
 loop-holds : tie.Need-loop-holds Inv-loop μ-loop
 loop-holds c = search needs
@@ -53,11 +56,11 @@ loop-less-2 c = search needs
 loop-again-2 : tie.Need-loop-again-2 Inv-loop μ-loop
 loop-again-2 c = search needs
 
-slice-aggregate-line-answered : tie.Need-slice-aggregate-line-answered Inv-loop μ-loop
-slice-aggregate-line-answered c = search needs
+slice-aggregate-ended : tie.Need-slice-aggregate-ended Inv-loop μ-loop
+slice-aggregate-ended c = search needs
 
-line-answered-requires : tie.Need-line-answered-requires Inv-loop μ-loop
-line-answered-requires c κs = search needs
+ended-requires : tie.Need-ended-requires Inv-loop μ-loop
+ended-requires c κs = search needs
 
 returns : tie.Need-returns Inv-loop μ-loop
 returns c = search needs
@@ -71,6 +74,7 @@ run-spec =
     (tie.spec
     Inv-loop
     μ-loop
+    buffer-requires
     loop-holds
     slice-aggregate-read
     read-requires
@@ -85,7 +89,7 @@ run-spec =
     sub-turns
     loop-less-2
     loop-again-2
-    slice-aggregate-line-answered
-    line-answered-requires
+    slice-aggregate-ended
+    ended-requires
     returns
     returns-2)

@@ -7,19 +7,19 @@ use Rattle.replay.proofs.input.taken.Statement.{statement}
 use Rattle.replay.proofs.input.taken.Tie as tie
 
 abbrev Inv-loop : tie.InvT-loop
-Inv-loop line₀ s r₀ i₀ line r i = (i ≤ length s) × (length line ≡ length line₀)
+Inv-loop kept₀ len s len₀ i₀ kept len' i = (i ≤ length s) × (length kept ≡ length kept₀)
 
 abbrev μ-loop : tie.MeasureT-loop
-μ-loop line₀ s r₀ i₀ line r i = length s - i
+μ-loop kept₀ len s len₀ i₀ kept len' i = length s - i
 
 loop-holds : tie.Need-loop-holds Inv-loop μ-loop
 loop-holds c = search needs
 
-shared-slice-read-stepped : tie.Need-shared-slice-read-stepped Inv-loop μ-loop
-shared-slice-read-stepped c = search needs
+shared-slice-read-fed : tie.Need-shared-slice-read-fed Inv-loop μ-loop
+shared-slice-read-fed c = search needs
 
-stepped-requires : tie.Need-stepped-requires Inv-loop μ-loop
-stepped-requires c κs = search needs
+fed-requires : tie.Need-fed-requires Inv-loop μ-loop
+fed-requires c κs = search needs
 
 add-i : tie.Need-add-i Inv-loop μ-loop
 add-i c = search needs
@@ -43,8 +43,8 @@ taken-spec =
     Inv-loop
     μ-loop
     loop-holds
-    shared-slice-read-stepped
-    stepped-requires
+    shared-slice-read-fed
+    fed-requires
     add-i
     loop-less
     loop-again

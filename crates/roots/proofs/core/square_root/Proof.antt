@@ -33,7 +33,8 @@ returns c =
 returns-2 : tie.Need-returns-2
 returns-2 c =
     let x = c .before .before .args .x in
-    sym (root-back x (λ (p : T (positive x)). lt-irrefl 2139095040 (lt-of-le-of-lt (c .if2 .left) (pattern x (held (c .before .before)) p .1))))
+    sym (root-back x (λ (p : T (positive x)). lt-irrefl 2139095040
+    (lt-of-le-of-lt (c .if2 .left) (pattern x (held (c .before .before)) p .1))))
 
 returns-3 : tie.Need-returns-3
 returns-3 c = sym (root-back (c .before .args .x) (not-above-zero (c .before .args .x) (c .if1 .left)))

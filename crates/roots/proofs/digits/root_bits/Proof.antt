@@ -1,12 +1,12 @@
--- `roots::digits::root_bits` meets its contract. What `settle` finds is the nearest root of the pattern's number, and its bits are the digits beside the power.
+-- `roots::digits::root_bits` meets its contract. What `settle` finds is the nearest root of the pattern's number, and its bits are the
+-- digits beside the power.
 use Prim.Native.Nat.{ℕ, _+_, _-_, _*_, _/_, _%_, _^_, _≤_, _<_}
 use native.Mathlib.Omega.{arith}
 use mathlib.Core.Path.{sym, _∙_}
 use Rattle.units.specs.Patterns.{val}
 use Rattle.units.proofs.Patterns.{joined-bits}
-use Rattle.roots.specs.How.{Nearest}
 use Rattle.roots.proofs.Powers.{joined}
-use Rattle.roots.proofs.Nearest.{nearest-of, nearest-root, q-low, q-high}
+use Rattle.roots.proofs.Nearest.{Nearest, nearest-of, nearest-root, q-low, q-high}
 use borrow.Author.Needs.{needs}
 use Rattle.roots.proofs.digits.root_bits.Statement.{statement}
 use Rattle.roots.proofs.digits.root_bits.Tie as tie
@@ -25,7 +25,8 @@ near c =
     let n = val (at-spread c .before .args .b) in
     let x = at-spread c .spread in
     let v = at-radicand c .radicand in
-    nearest-of n (c .settle .result) ((x .result .p - 23) / 2) (v .result) (joined n (8388608 + x .result .c % 8388608) (x .result .p) (v .result) (x .ensures) (v .ensures))
+    nearest-of n (c .settle .result) ((x .result .p - 23) / 2) (v .result)
+    (joined n (8388608 + x .result .c % 8388608) (x .result .p) (v .result) (x .ensures) (v .ensures))
     (v .ensures .r-low) (v .ensures .r-high) (c .settle .ensures .0) (c .settle .ensures .1)
 
 few : (p : ℕ) → p ≤ 402 → (p - 23) / 2 ≤ 200
@@ -75,8 +76,11 @@ add-result c = record { fits = fit (c .before) .1 }
 
 returns : tie.Need-returns
 returns c =
-    let d = c .before in
-    (fit d .2, joined-bits (d .settle .result) ((power d - 23) / 2) (q-low (near d)) (q-high (near d)) (k-few d) ∙ sym (nearest-root (near d)))
+    let d = c .before in (
+      fit d .2,
+      joined-bits (d .settle .result) ((power d - 23) / 2) (q-low (near d)) (q-high (near d)) (k-few d)
+          ∙ sym (nearest-root (near d)),
+    )
 
 pub root-bits-spec : {M : Type 1} → statement M
 root-bits-spec =

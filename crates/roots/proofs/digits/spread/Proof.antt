@@ -19,10 +19,12 @@ few : (b : ℕ) → b < 2139095040 → b / 8388608 < 255
 few b h = omega arith
 
 returns : tie.Need-returns
-returns c = field-zero (c .before .before .args .b) (8388608 + c .lift .result .c % 8388608) (c .lift .result .p) (c .before .if1 .taken) (c .lift .ensures)
+returns c = field-zero (c .before .before .args .b) (8388608 + c .lift .result .c % 8388608) (c .lift .result .p) (c .before .if1 .taken)
+    (c .lift .ensures)
 
 returns-2 : tie.Need-returns-2
-returns-2 c = field-more (c .before .args .b / 8388608) (c .before .args .b % 8388608) (low (c .before .args .b)) (few (c .before .args .b) (c .before .pre .1)) (c .if1 .left)
+returns-2 c = field-more (c .before .args .b / 8388608) (c .before .args .b % 8388608) (low (c .before .args .b))
+    (few (c .before .args .b) (c .before .pre .1)) (c .if1 .left)
 
 pub spread-spec : {M : Type 1} → statement M
 spread-spec = tie.close (tie.spec lift-requires add-t5 returns returns-2)

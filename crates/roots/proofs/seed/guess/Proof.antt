@@ -7,7 +7,8 @@ use Rattle.roots.proofs.seed.guess.Tie as tie
 
 here : (c : tie.After-arc-at) → Curve (c .arc-at .result .1) (c .arc-at .result .2) (c .before .args .f)
 here c =
-    curve (c .arc-at .result .1) (c .arc-at .result .2) (c .before .args .f) (c .arc-at .ensures .slope-high) (c .arc-at .ensures .bend-high) (c .before .pre)
+    curve (c .arc-at .result .1) (c .arc-at .result .2) (c .before .args .f) (c .arc-at .ensures .slope-high)
+    (c .arc-at .ensures .bend-high) (c .before .pre)
 
 arc-at-requires : tie.Need-arc-at-requires
 arc-at-requires c κs = search needs

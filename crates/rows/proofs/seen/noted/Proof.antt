@@ -10,7 +10,7 @@ returns c =
       c .before .point-permitted .ensures,
       c .before .before .before .point-finite .ensures,
       c .before .before .before .before .placed .ensures,
-      c .before .before .before .before .before .before .foot .ensures,
+      c .before .before .before .before .before .before .foot-limit .ensures,
     )
 
 pub noted-spec : {M : Type 1} → statement M

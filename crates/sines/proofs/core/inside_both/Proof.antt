@@ -1,10 +1,11 @@
 -- `sines::core::inside_both` meets its contract, as `inside_sine` and `inside_cosine` do.
 use borrow.Author.Needs.{needs}
-use mathlib.Core.Path.{_≡_, sym, ap, ap₂, _∙_, subst}
+use mathlib.Core.Path.{sym, ap, ap₂, _∙_, subst}
 use lib.Dec.{T}
-use lib.Ieee.{binary32, fits, ofBits}
-use Rattle.sines.specs.How.{bare, negative, fixed, fixedSine, fixedCosine, counted, centred}
-use Rattle.sines.proofs.Values.{argument, no-nan}
+use lib.Ieee.{binary32, toBits, fits, ofBits}
+use Rattle.units.specs.Patterns.{signSet, bare}
+use Rattle.sines.specs.How.{fixed, fixedSine, fixedCosine, counted, centred}
+use Rattle.sines.proofs.Values.{no-nan, most-bits}
 use Rattle.sines.proofs.Centred.{counted-turned}
 use Rattle.sines.proofs.Whole.{sine-fits, cosine-fits}
 use Rattle.sines.proofs.Sharp.{sine-tiny, sine-else, cosine-tiny, cosine-else}
@@ -23,13 +24,13 @@ unfolding ofBits
 returns c = (sine-tiny (c .before .args .x) (c .if1 .taken), cosine-tiny (c .before .args .x) (c .if1 .taken))
 
 fixed-of-requires : tie.Need-fixed-of-requires
-fixed-of-requires c κs = (c .if1 .left, argument (c .before .args .x) (held (c .before)) (c .before .pre) .held .most)
+fixed-of-requires c κs = (c .if1 .left, most-bits (c .before .args .x) (held (c .before)) (c .before .pre))
 
 both-requires : tie.Need-both-requires
 both-requires c κs = search needs
 
-unit-of-requires : tie.Need-unit-of-requires
-unit-of-requires c κs = search needs
+last-place-of-requires : tie.Need-last-place-of-requires
+last-place-of-requires c κs = search needs
 
 counted-requires : tie.Need-counted-requires
 counted-requires c κs =
@@ -50,7 +51,8 @@ returns-2 c =
     let x = f .before .before .args .x in
     let n = f .fixed-of .ensures .0 in
     let far = f .before .if1 .left in (
-      s .counted .ensures ∙ ap₂ counted (s .before .unit-of .ensures) (b .both .ensures .0 ∙ ap fixedSine n) ∙ counted-turned (negative x) (fixedSine (fixed (bare x))) ∙ sine-else x far,
+      s .counted .ensures ∙ ap₂ counted (s .before .last-place-of .ensures) (b .both .ensures .0 ∙ ap fixedSine n)
+          ∙ counted-turned (signSet (toBits binary32 x)) (fixedSine (fixed (bare (toBits binary32 x)))) ∙ sine-else x far,
       c .counted2 .ensures ∙ ap centred (b .both .ensures .1 ∙ ap fixedCosine n) ∙ cosine-else x far,
     )
 
@@ -62,7 +64,7 @@ inside-both-spec =
     returns
     fixed-of-requires
     both-requires
-    unit-of-requires
+    last-place-of-requires
     counted-requires
     counted-requires-2
     returns-2)

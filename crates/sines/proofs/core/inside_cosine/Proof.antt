@@ -1,11 +1,11 @@
--- `sines::core::inside_cosine` meets its contract. A permitted argument has a bit pattern of at most that of 16, and the whole-number cosine stays from -1 to 1.
+-- `sines::core::inside_cosine` meets its contract. A permitted argument has a bit pattern of at most that of 16, and the whole-number
+-- cosine stays from -1 to 1.
 use borrow.Author.Needs.{needs}
-use mathlib.Core.Path.{_≡_, sym, ap, _∙_, subst}
-use Prim.Native.Nat.{ℕ, _≤_}
+use mathlib.Core.Path.{sym, ap, _∙_, subst}
 use lib.Dec.{T}
-use lib.Ieee.{Float, binary32, fits, ofBits}
+use lib.Ieee.{binary32, fits, ofBits}
 use Rattle.sines.specs.How.{fixedCosine, centred}
-use Rattle.sines.proofs.Values.{argument, no-nan}
+use Rattle.sines.proofs.Values.{no-nan, most-bits}
 use Rattle.sines.proofs.Whole.{cosine-fits}
 use Rattle.sines.proofs.Sharp.{cosine-tiny, cosine-else}
 use Rattle.sines.proofs.core.inside_cosine.Statement.{statement}
@@ -23,7 +23,7 @@ unfolding ofBits
 returns c = cosine-tiny (c .before .args .x) (c .if1 .taken)
 
 fixed-of-requires : tie.Need-fixed-of-requires
-fixed-of-requires c κs = (c .if1 .left, argument (c .before .args .x) (held (c .before)) (c .before .pre) .held .most)
+fixed-of-requires c κs = (c .if1 .left, most-bits (c .before .args .x) (held (c .before)) (c .before .pre))
 
 both-requires : tie.Need-both-requires
 both-requires c κs = search needs
@@ -36,7 +36,8 @@ returns-2 : tie.Need-returns-2
 unfolding ofBits
 returns-2 c =
     let b = c .before .before in
-    c .counted .ensures ∙ ap centred (c .before .both .ensures .1 ∙ ap fixedCosine (b .fixed-of .ensures .0)) ∙ cosine-else (b .before .before .args .x) (b .before .if1 .left)
+    c .counted .ensures ∙ ap centred (c .before .both .ensures .1 ∙ ap fixedCosine (b .fixed-of .ensures .0))
+    ∙ cosine-else (b .before .before .args .x) (b .before .if1 .left)
 
 pub inside-cosine-spec : {M : Type 1} → statement M
 inside-cosine-spec = tie.close (tie.spec float-to-bits-m returns fixed-of-requires both-requires counted-requires returns-2)

@@ -1,12 +1,11 @@
 -- `sines::core::sine` meets its contract: what the inner function gives where x is permitted, else +0.
 use borrow.Author.Needs.{needs}
 use mathlib.Core.Path.{_≡_, sym, _∙_, subst}
-use mathlib.Core.Bool.{Bool, true, false, true≢false}
+use mathlib.Core.Bool.{false, true≢false}
 use lib.Dec.{T}
-use lib.Ieee.{Float, binary32, fits, ofBits}
+use lib.Ieee.{binary32, fits, ofBits}
 use lib.Ieee.Bits.{is-true}
 use Rattle.numbers.specs.Door.{permits}
-use Rattle.numbers.proofs.OnePass.{tested}
 use Rattle.numbers.specs.Limits.{sineArgument}
 use Rattle.sines.specs.Bands.{SineOf}
 use Rattle.sines.specs.How.{sine}
@@ -19,31 +18,25 @@ use Rattle.sines.proofs.core.sine.Tie as tie
 held : (c : tie.Start) → T (fits binary32 (c .args .x))
 held c = subst T (sym (c .good .0 .1)) tt
 
-test : (c : tie.After-is-permitted) → c .is-permitted .result ≡ permits sineArgument (c .before .before .args .x)
-test c = tested sineArgument (c .before .sine-argument .result) (c .before .before .args .x) (c .is-permitted .result) (c .before .sine-argument .ensures) (c .is-permitted .ensures)
-
-sine-argument-requires : tie.Need-sine-argument-requires
-sine-argument-requires c κs = search needs
-
-is-permitted-requires : tie.Need-is-permitted-requires
-is-permitted-requires c κs = search needs
+permitted-requires : tie.Need-permitted-requires
+permitted-requires c κs = search needs
 
 inside-sine-requires : tie.Need-inside-sine-requires
-inside-sine-requires c κs = subst T (sym (c .if1 .taken) ∙ test (c .before)) tt
+inside-sine-requires c κs = subst T (sym (c .if1 .taken) ∙ c .before .permitted .ensures) tt
 
 returns : tie.Need-returns
 returns c =
-    let s = c .before .before .before .before in
-    let p = inside-sine-requires (c .before) tt in
-    let e : c .inside-sine .result ≡ sine (s .args .x) = c .inside-sine .ensures ∙ sine-is (s .args .x) (held s) p in
-    (e, λ (q : T (permits sineArgument (s .args .x))). subst (λ (r : Float). SineOf (s .args .x) r) (sym e) (sine-band (s .args .x) (held s) q))
+    let s = c .before .before .before in
+    let x = s .args .x in
+    let e : c .inside-sine .result ≡ sine x = c .inside-sine .ensures ∙ sine-is x (held s) (inside-sine-requires (c .before) tt) in
+    (e, λ (q : T (permits sineArgument x)). subst (SineOf x) (sym e) (sine-band x (held s) q))
 
 returns-2 : tie.Need-returns-2
 unfolding ofBits
 returns-2 c =
-    let x = c .before .before .before .args .x in
-    let n : permits sineArgument x ≡ false = sym (test (c .before)) ∙ c .if1 .left in
+    let x = c .before .before .args .x in
+    let n : permits sineArgument x ≡ false = sym (c .before .permitted .ensures) ∙ c .if1 .left in
     (sym (sine-outside x n), λ (q : T (permits sineArgument x)). absurd (true≢false (sym (is-true (permits sineArgument x) q) ∙ n)))
 
 pub sine-spec : {M : Type 1} → statement M
-sine-spec = tie.close (tie.spec sine-argument-requires is-permitted-requires inside-sine-requires returns returns-2)
+sine-spec = tie.close (tie.spec permitted-requires inside-sine-requires returns returns-2)

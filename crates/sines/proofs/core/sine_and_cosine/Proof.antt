@@ -5,7 +5,6 @@ use mathlib.Core.Bool.{false}
 use lib.Dec.{T}
 use lib.Ieee.{binary32, fits, ofBits}
 use Rattle.numbers.specs.Door.{permits}
-use Rattle.numbers.proofs.OnePass.{tested}
 use Rattle.numbers.specs.Limits.{sineArgument}
 use Rattle.sines.proofs.Sharp.{sine-is, cosine-is, sine-outside, cosine-outside}
 use Rattle.sines.proofs.core.sine_and_cosine.Statement.{statement}
@@ -15,32 +14,25 @@ use Rattle.sines.proofs.core.sine_and_cosine.Tie as tie
 held : (c : tie.Start) → T (fits binary32 (c .args .x))
 held c = subst T (sym (c .good .0 .1)) tt
 
-test : (c : tie.After-is-permitted) → c .is-permitted .result ≡ permits sineArgument (c .before .before .args .x)
-test c = tested sineArgument (c .before .sine-argument .result) (c .before .before .args .x) (c .is-permitted .result) (c .before .sine-argument .ensures) (c .is-permitted .ensures)
-
-sine-argument-requires : tie.Need-sine-argument-requires
-sine-argument-requires c κs = search needs
-
-is-permitted-requires : tie.Need-is-permitted-requires
-is-permitted-requires c κs = search needs
+permitted-requires : tie.Need-permitted-requires
+permitted-requires c κs = search needs
 
 inside-both-requires : tie.Need-inside-both-requires
-inside-both-requires c κs = subst T (sym (c .if1 .taken) ∙ test (c .before)) tt
+inside-both-requires c κs = subst T (sym (c .if1 .taken) ∙ c .before .permitted .ensures) tt
 
 returns : tie.Need-returns
 returns c =
-    let s = c .before .before .before .before in
+    let s = c .before .before .before in
+    let x = s .args .x in
     let p = inside-both-requires (c .before) tt in
-    (c .inside-both .ensures .0 ∙ sine-is (s .args .x) (held s) p, c .inside-both .ensures .1 ∙ cosine-is (s .args .x) (held s) p)
+    (c .inside-both .ensures .0 ∙ sine-is x (held s) p, c .inside-both .ensures .1 ∙ cosine-is x (held s) p)
 
 returns-2 : tie.Need-returns-2
 unfolding ofBits
 returns-2 c =
-    let x = c .before .before .before .args .x in
-    let n : permits sineArgument x ≡ false = sym (test (c .before)) ∙ c .if1 .left in
+    let x = c .before .before .args .x in
+    let n : permits sineArgument x ≡ false = sym (c .before .permitted .ensures) ∙ c .if1 .left in
     (sym (sine-outside x n), sym (cosine-outside x n))
 
 pub sine-and-cosine-spec : {M : Type 1} → statement M
-sine-and-cosine-spec =
-    tie.close
-    (tie.spec sine-argument-requires is-permitted-requires inside-both-requires returns returns-2)
+sine-and-cosine-spec = tie.close (tie.spec permitted-requires inside-both-requires returns returns-2)

@@ -1,17 +1,18 @@
--- `sines::fixed::cosine_sum` meets its contract. The two products are at most 2 ^ 63 and 2 ^ 60, and what is taken away at most 2 ^ 62 and 2 ^ 60.
+-- `sines::fixed::cosine_sum` meets its contract. The two products are at most 2 ^ 63 and 2 ^ 60, and what is taken away at most 2 ^ 62 and
+-- 2 ^ 60.
 use borrow.Author.Needs.{needs}
 use mathlib.Core.Path.{refl}
-use Prim.Native.Nat.{ℕ, _*_, _≤_}
+use Prim.Native.Nat.{ℕ, _*_, _^_, _≤_}
 use native.Mathlib.Nat.{mul-le-mul}
 use native.Mathlib.Omega.{arith}
-use Rattle.sines.specs.How.{cosineSum}
+use Rattle.sines.specs.How.{lineFactor, tableOne, restOne, cosineSum}
 use Rattle.sines.proofs.fixed.cosine_sum.Statement.{statement}
 use Rattle.sines.proofs.fixed.cosine_sum.Tie as tie
 
-first : (c a : ℕ) → c ≤ 2147483648 → a ≤ 4294967296 → c * a ≤ 9223372036854775808
+first : (c a : ℕ) → c ≤ 2 * tableOne → a ≤ restOne → c * a ≤ 2 ^ 63
 first c a h k = mul-le-mul h k
 
-second : (s b : ℕ) → s ≤ 2147483648 → b ≤ 536870912 → s * b ≤ 1152921504606846976
+second : (s b : ℕ) → s ≤ 2 * tableOne → b ≤ lineFactor → s * b ≤ 2 ^ 60
 second s b h k = mul-le-mul h k
 
 mul-low : tie.Need-mul-low
@@ -39,7 +40,11 @@ sub-result : tie.Need-sub-result
 sub-result c = omega (arith, second (c .args .s) (c .args .b) (c .pre .0) (c .pre .3))
 
 add-result-2 : tie.Need-add-result-2
-add-result-2 c = omega (arith, first (c .args .c) (c .args .a) (c .pre .1) (c .pre .2), second (c .args .s) (c .args .b) (c .pre .0) (c .pre .3))
+add-result-2 c = omega (
+  arith,
+  first (c .args .c) (c .args .a) (c .pre .1) (c .pre .2),
+  second (c .args .s) (c .args .b) (c .pre .0) (c .pre .3),
+)
 
 returns : tie.Need-returns
 unfolding cosineSum

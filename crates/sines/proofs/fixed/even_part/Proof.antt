@@ -1,16 +1,16 @@
 -- `sines::fixed::even_part` meets its contract. Each product stays below 2 ^ 64, and what is taken away below what it is taken from.
 use borrow.Author.Needs.{needs}
-use Prim.Native.Nat.{ℕ, _-_, _*_, _/_, _≤_, _<_}
+use Prim.Native.Nat.{ℕ, _-_, _*_, _^_, _/_, _≤_, _<_}
 use mathlib.Core.Path.{refl}
 use native.Mathlib.Nat.{mul-le-mul, le-of-lt}
 use native.Mathlib.Omega.{arith}
-use Rattle.sines.specs.How.{even}
+use Rattle.sines.specs.How.{squareFactor, fourthFactor, restOne, even}
 use Rattle.sines.proofs.Rest.{even-le, part-le}
 use Rattle.sines.proofs.fixed.even_part.Statement.{statement}
 use Rattle.sines.proofs.fixed.even_part.Tie as tie
 
-few : (q i : ℕ) → q < 4294967296 → q * (33554432 - i) ≤ 144115188075855872
-few q i h = mul-le-mul {n₁ = q} {m₁ = 33554432 - i} {n₂ = 4294967296} {m₂ = 33554432} (omega arith) (omega arith)
+few : (q i : ℕ) → q < restOne → q * (squareFactor - i) ≤ 2 ^ 57
+few q i h = mul-le-mul {n₁ = q} {m₁ = squareFactor - i} {n₂ = restOne} {m₂ = squareFactor} (omega arith) (omega arith)
 
 mul-t : tie.Need-mul-t
 mul-t c = search needs
@@ -19,10 +19,10 @@ sub-t : tie.Need-sub-t
 sub-t c = search needs
 
 mul-result : tie.Need-mul-result
-mul-result c = omega (arith, few (c .args .q) (c .args .q * 43670 / 4294967296) (c .pre))
+mul-result c = omega (arith, few (c .args .q) (c .args .q * fourthFactor / restOne) (c .pre))
 
 sub-result : tie.Need-sub-result
-sub-result c = omega (arith, part-le (c .args .q) 33554432 (c .args .q * 43670 / 4294967296) (le-of-lt (c .pre)))
+sub-result c = omega (arith, part-le (c .args .q) squareFactor (c .args .q * fourthFactor / restOne) (le-of-lt (c .pre)))
 
 returns : tie.Need-returns
 unfolding even

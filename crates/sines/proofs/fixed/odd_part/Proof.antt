@@ -4,14 +4,14 @@ use Prim.Native.Nat.{ℕ, _-_, _*_, _/_, _≤_, _<_}
 use mathlib.Core.Path.{refl}
 use native.Mathlib.Nat.{mul-le-mul, le-of-lt}
 use native.Mathlib.Omega.{arith}
-use Rattle.sines.specs.How.{odd}
+use Rattle.sines.specs.How.{lineFactor, cubeFactor, fifthFactor, restOne, odd}
 use Rattle.sines.proofs.Rest.{odd-le, part-le}
 use Rattle.sines.proofs.fixed.odd_part.Statement.{statement}
 use Rattle.sines.proofs.fixed.odd_part.Tie as tie
 
 -- at most k times 2 ^ 32
-few : (q k i : ℕ) → q < 4294967296 → q * (k - i) ≤ 4294967296 * k
-few q k i h = mul-le-mul {n₁ = q} {m₁ = k - i} {n₂ = 4294967296} {m₂ = k} (omega arith) (omega arith)
+few : (q k i : ℕ) → q < restOne → q * (k - i) ≤ restOne * k
+few q k i h = mul-le-mul {n₁ = q} {m₁ = k - i} {n₂ = restOne} {m₂ = k} (omega arith) (omega arith)
 
 mul-t : tie.Need-mul-t
 mul-t c = search needs
@@ -20,13 +20,17 @@ sub-t : tie.Need-sub-t
 sub-t c = search needs
 
 mul-u : tie.Need-mul-u
-mul-u c = omega (arith, few (c .args .q) 1398101 (c .args .q * 1092 / 4294967296) (c .pre .1))
+mul-u c = omega (arith, few (c .args .q) cubeFactor (c .args .q * fifthFactor / restOne) (c .pre .1))
 
 sub-u : tie.Need-sub-u
-sub-u c = omega (arith, part-le (c .args .q) 1398101 (c .args .q * 1092 / 4294967296) (le-of-lt (c .pre .1)))
+sub-u c = omega (arith, part-le (c .args .q) cubeFactor (c .args .q * fifthFactor / restOne) (le-of-lt (c .pre .1)))
 
 mul-result : tie.Need-mul-result
-mul-result c = omega (arith, few (c .args .r) 536870912 (c .args .q * (1398101 - c .args .q * 1092 / 4294967296) / 4294967296) (c .pre .0))
+mul-result c = omega (
+  arith,
+  few (c .args .r) lineFactor (c .args .q * (cubeFactor - c .args .q * fifthFactor / restOne) / restOne)
+      (c .pre .0),
+)
 
 returns : tie.Need-returns
 unfolding odd

@@ -1,17 +1,18 @@
--- `sines::fixed::sine_sum` meets its contract. The two products are at most 2 ^ 63 and 2 ^ 60, and what is taken away at most 2 ^ 62 + 2 ^ 59.
+-- `sines::fixed::sine_sum` meets its contract. The two products are at most 2 ^ 63 and 2 ^ 60, and what is taken away at most 2 ^ 62 + 2 ^
+-- 59.
 use borrow.Author.Needs.{needs}
 use mathlib.Core.Path.{refl}
-use Prim.Native.Nat.{ℕ, _*_, _≤_}
+use Prim.Native.Nat.{ℕ, _*_, _^_, _≤_}
 use native.Mathlib.Nat.{mul-le-mul}
 use native.Mathlib.Omega.{arith}
-use Rattle.sines.specs.How.{sineSum}
+use Rattle.sines.specs.How.{lineFactor, tableOne, restOne, sineSum}
 use Rattle.sines.proofs.fixed.sine_sum.Statement.{statement}
 use Rattle.sines.proofs.fixed.sine_sum.Tie as tie
 
-first : (s a : ℕ) → s ≤ 2147483648 → a ≤ 4294967296 → s * a ≤ 9223372036854775808
+first : (s a : ℕ) → s ≤ 2 * tableOne → a ≤ restOne → s * a ≤ 2 ^ 63
 first s a h k = mul-le-mul h k
 
-second : (c b : ℕ) → c ≤ 2147483648 → b ≤ 536870912 → c * b ≤ 1152921504606846976
+second : (c b : ℕ) → c ≤ 2 * tableOne → b ≤ lineFactor → c * b ≤ 2 ^ 60
 second c b h k = mul-le-mul h k
 
 add-low : tie.Need-add-low
@@ -33,10 +34,18 @@ mul-result-2 : tie.Need-mul-result-2
 mul-result-2 c = omega (arith, second (c .args .c) (c .args .b) (c .pre .1) (c .pre .3))
 
 add-result-2 : tie.Need-add-result-2
-add-result-2 c = omega (arith, first (c .args .s) (c .args .a) (c .pre .0) (c .pre .2), second (c .args .c) (c .args .b) (c .pre .1) (c .pre .3))
+add-result-2 c = omega (
+  arith,
+  first (c .args .s) (c .args .a) (c .pre .0) (c .pre .2),
+  second (c .args .c) (c .args .b) (c .pre .1) (c .pre .3),
+)
 
 add-result-3 : tie.Need-add-result-3
-add-result-3 c = omega (arith, first (c .args .s) (c .args .a) (c .pre .0) (c .pre .2), second (c .args .c) (c .args .b) (c .pre .1) (c .pre .3))
+add-result-3 c = omega (
+  arith,
+  first (c .args .s) (c .args .a) (c .pre .0) (c .pre .2),
+  second (c .args .c) (c .args .b) (c .pre .1) (c .pre .3),
+)
 
 returns : tie.Need-returns
 unfolding sineSum

@@ -1,8 +1,8 @@
 -- `sines::fixed::taken_apart` meets its contract: the entry has the sine and the cosine at its place, and the parts ensure the rest.
 use borrow.Author.Needs.{needs}
 use mathlib.Core.Path.{_≡_, sym, ap, _∙_, subst}
-use Prim.Native.Nat.{ℕ, _/_, _%_, _≤_, _<_}
-use Rattle.sines.specs.How.{square, even, odd}
+use Prim.Native.Nat.{ℕ, _*_, _≤_, _<_}
+use Rattle.sines.specs.How.{tableOne, eighths, rest, square, even, odd}
 use Rattle.sines.proofs.Entries.{sine-small, cosine-small}
 use Rattle.sines.proofs.fixed.taken_apart.Statement.{statement}
 use Rattle.sines.proofs.fixed.taken_apart.Tie as tie
@@ -33,16 +33,16 @@ returns c =
     let r = c .before .before .before .before in
     let t = r .before in
     let x = t .before .args .x in
-    let q : r .square-of .result ≡ square (x % 4294967296) = r .square-of .ensures .0 in
-    let j = x / 4294967296 in
+    let q : r .square-of .result ≡ square (rest x) = r .square-of .ensures .0 in
+    let j = eighths x in
     let h : j < 129 = entry-requires (t .before) tt in
     record {
       s-is = t .entry .ensures .0;
       c-is = t .entry .ensures .1;
       a-is = c .before .even-part .ensures .0 ∙ ap even q;
-      b-is = c .odd-part .ensures .0 ∙ ap (odd (x % 4294967296)) q;
-      s-high = subst (λ (n : ℕ). n ≤ 2147483648) (sym (t .entry .ensures .0)) (sine-small j h);
-      c-high = subst (λ (n : ℕ). n ≤ 2147483648) (sym (t .entry .ensures .1)) (cosine-small j h);
+      b-is = c .odd-part .ensures .0 ∙ ap (odd (rest x)) q;
+      s-high = subst (λ (n : ℕ). n ≤ 2 * tableOne) (sym (t .entry .ensures .0)) (sine-small j h);
+      c-high = subst (λ (n : ℕ). n ≤ 2 * tableOne) (sym (t .entry .ensures .1)) (cosine-small j h);
       a-high = c .before .even-part .ensures .1;
       b-high = c .odd-part .ensures .1;
     }

@@ -8,7 +8,7 @@ returns c =
       c .feet-permitted3 .ensures,
       c .before .feet-permitted2 .ensures,
       c .before .before .feet-permitted .ensures,
-      c .before .before .before .foot .ensures,
+      c .before .before .before .foot-limit .ensures,
     )
 
 pub course-permitted-spec : {M : Type 1} → statement M

@@ -10,17 +10,16 @@ returns c = simp (c .if1 .taken, ← c .before .is-same .ensures)
 
 returns-2 : tie.Need-returns-2
 unfolding legAt
-returns-2 c = simp (← one-bits, c .if2 .taken, c .before .if1 .left, ← c .before .before .is-same .ensures)
+returns-2 c =
+    let other = c .before in
+    simp (← one-bits, c .if2 .taken, other .if1 .left, ← other .before .is-same .ensures)
 
 returns-3 : tie.Need-returns-3
 unfolding legAt
 returns-3 c =
-    simp (
-      ← one-bits,
-      c .before .before .before .before .before .before .before .if2 .left,
-      c .before .before .before .before .before .before .before .before .if1 .left,
-      ← c .before .before .before .before .before .before .before .before .before .is-same .ensures,
-    )
+    let under = c .before .before .before .before .before .before .before in
+    let other = under .before in
+    simp (← one-bits, under .if2 .left, other .if1 .left, ← other .before .is-same .ensures)
 
 pub leg-at-spec : {M : Type 1} → statement M
 leg-at-spec = tie.close (tie.spec (λ _ _. tt) returns returns-2 returns-3)

@@ -1,5 +1,5 @@
 -- `steps::core::next_even` meets its contract, by what the legs did.
-use Rattle.steps.specs.Next.{nextEven}
+use Rattle.steps.specs.Next.{evenAt}
 use borrow.Author.Needs.{needs}
 use Rattle.steps.proofs.core.next_even.Statement.{statement}
 use Rattle.steps.proofs.core.next_even.Tie as tie
@@ -11,30 +11,12 @@ enum-told : tie.Need-enum-told
 enum-told c = search needs
 
 returns : tie.Need-returns
-unfolding nextEven
-returns c =
-    simp (
-      ← c .before .before .before .by-time .ensures,
-      ← c .before .before .before .before .even-progress .ensures,
-      c .before .step .given .1,
-    )
+unfolding evenAt
+returns c = simp (← c .before .before .before .by-time .ensures, c .before .step .given .1)
 
 returns-2 : tie.Need-returns-2
-unfolding nextEven
-returns-2 c =
-    simp (
-      ← c .before .before .by-time .ensures,
-      ← c .before .before .before .even-progress .ensures,
-      c .enum-told .given .1,
-    )
+unfolding evenAt
+returns-2 c = simp (← c .before .before .by-time .ensures, c .enum-told .given .1)
 
 pub next-even-spec : {M : Type 1} → statement M
-next-even-spec =
-    tie.close
-    (tie.spec
-    (λ _ _. tt)
-    (λ _ _. tt)
-    enum-known-step
-    enum-told
-    returns
-    returns-2)
+next-even-spec = tie.close (tie.spec (λ _ _. tt) enum-known-step enum-told returns returns-2)

@@ -1,5 +1,5 @@
 -- `steps::core::next_timed` meets its contract, by what the legs did.
-use Rattle.steps.specs.Next.{nextTimed}
+use Rattle.steps.specs.Next.{timedAt}
 use borrow.Author.Needs.{needs}
 use Rattle.steps.proofs.core.next_timed.Statement.{statement}
 use Rattle.steps.proofs.core.next_timed.Tie as tie
@@ -11,30 +11,12 @@ enum-told : tie.Need-enum-told
 enum-told c = search needs
 
 returns : tie.Need-returns
-unfolding nextTimed
-returns c =
-    simp (
-      ← c .before .before .before .by-time .ensures,
-      ← c .before .before .before .before .timed-progress .ensures,
-      c .before .step .given .1,
-    )
+unfolding timedAt
+returns c = simp (← c .before .before .before .by-time .ensures, c .before .step .given .1)
 
 returns-2 : tie.Need-returns-2
-unfolding nextTimed
-returns-2 c =
-    simp (
-      ← c .before .before .by-time .ensures,
-      ← c .before .before .before .timed-progress .ensures,
-      c .enum-told .given .1,
-    )
+unfolding timedAt
+returns-2 c = simp (← c .before .before .by-time .ensures, c .enum-told .given .1)
 
 pub next-timed-spec : {M : Type 1} → statement M
-next-timed-spec =
-    tie.close
-    (tie.spec
-    (λ _ _. tt)
-    (λ _ _. tt)
-    enum-known-step
-    enum-told
-    returns
-    returns-2)
+next-timed-spec = tie.close (tie.spec (λ _ _. tt) enum-known-step enum-told returns returns-2)

@@ -1,4 +1,4 @@
--- `steps::core::shift_legs` meets its contract: each leg by the leg rule, at its height.
+-- `steps::core::shift_legs` meets its contract: each leg by the leg rule, at its height; six single steps, together.
 use Rattle.steps.proofs.Legs.{leg-is}
 use Rattle.steps.specs.Shift.{shiftLegs}
 use Rattle.steps.proofs.core.shift_legs.Statement.{statement}
@@ -7,32 +7,21 @@ use Rattle.steps.proofs.core.shift_legs.Tie as tie
 returns : tie.Need-returns
 unfolding shiftLegs
 returns c =
+    let heights = c .before .before .before .before .before .before .before in
     simp (
-      c .shared .ensures,
-      c .before .point-of6 .ensures,
-      c .before .before .point-of5 .ensures,
-      c .before .before .before .point-of4 .ensures,
-      c .before .before .before .before .point-of3 .ensures,
-      c .before .before .before .before .before .point-of2 .ensures,
-      c .before .before .before .before .before .before .point-of .ensures,
-      c .before .before .before .before .before .before .before .has-moved6 .ensures,
-      c .before .before .before .before .before .before .before .before .has-moved5 .ensures,
-      c .before .before .before .before .before .before .before .before .before .has-moved4 .ensures,
-      c .before .before .before .before .before .before .before .before .before .before .has-moved3 .ensures,
-      c .before .before .before .before .before .before .before .before .before .before .before .has-moved2 .ensures,
-      c .before .before .before .before .before .before .before .before .before .before .before .before .has-moved .ensures,
-      c .before .before .before .before .before .before .before .before .before .before .before .before .before .leg-at6 .ensures,
-      c .before .before .before .before .before .before .before .before .before .before .before .before .before .before .leg-at5 .ensures,
-      c .before .before .before .before .before .before .before .before .before .before .before .before .before .before .before .leg-at4 .ensures,
-      c .before .before .before .before .before .before .before .before .before .before .before .before .before .before .before .before .leg-at3 .ensures,
-      c .before .before .before .before .before .before .before .before .before .before .before .before .before .before .before .before .before .leg-at2 .ensures,
-      c .before .before .before .before .before .before .before .before .before .before .before .before .before .before .before .before .before .before .leg-at .ensures,
-      c .before .before .before .before .before .before .before .before .before .before .before .before .before .before .before .before .before .before .before .raised2 .ensures,
-      c .before .before .before .before .before .before .before .before .before .before .before .before .before .before .before .before .before .before .before .before .height-rlr .ensures,
-      c .before .before .before .before .before .before .before .before .before .before .before .before .before .before .before .before .before .before .before .before .before .raised .ensures,
-      c .before .before .before .before .before .before .before .before .before .before .before .before .before .before .before .before .before .before .before .before .before .before .height-lrl .ensures,
-      c .before .before .before .before .before .before .before .before .before .before .before .before .before .before .before .before .before .before .before .before .before .before .before .swing .ensures,
-      c .before .before .before .before .before .before .before .before .before .before .before .before .before .before .before .before .before .before .before .before .before .before .before .before .at-once .ensures,
+      c .together .ensures,
+      c .before .leg-at6 .ensures,
+      c .before .before .leg-at5 .ensures,
+      c .before .before .before .leg-at4 .ensures,
+      c .before .before .before .before .leg-at3 .ensures,
+      c .before .before .before .before .before .leg-at2 .ensures,
+      c .before .before .before .before .before .before .leg-at .ensures,
+      heights .raised2 .ensures,
+      heights .before .height-rlr .ensures,
+      heights .before .before .raised .ensures,
+      heights .before .before .before .height-lrl .ensures,
+      heights .before .before .before .before .swing .ensures,
+      heights .before .before .before .before .before .at-once .ensures,
       leg-is,
     )
 
@@ -40,18 +29,6 @@ pub shift-legs-spec : {M : Type 1} → statement M
 shift-legs-spec =
     tie.close
     (tie.spec
-    (λ _ _. tt)
-    (λ _ _. tt)
-    (λ _ _. tt)
-    (λ _ _. tt)
-    (λ _ _. tt)
-    (λ _ _. tt)
-    (λ _ _. tt)
-    (λ _ _. tt)
-    (λ _ _. tt)
-    (λ _ _. tt)
-    (λ _ _. tt)
-    (λ _ _. tt)
     (λ _ _. tt)
     (λ _ _. tt)
     (λ _ _. tt)

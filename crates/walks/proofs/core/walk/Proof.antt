@@ -1,4 +1,5 @@
--- `walks::core::walk` meets its contract: the loop keeps `Going`, and S falls with every step that moves. A step is `moveTowards`, by its first test.
+-- `walks::core::walk` meets its contract: the loop keeps `Going`, and S falls with every step that moves. A step is `moveTowards`, by its
+-- first test.
 use mathlib.Core.Path.{_≡_, sym, ap, _∙_}
 use mathlib.Core.Bool.{Bool, false}
 use Prim.Native.Nat.{ℕ, _+_, _≤_, _<_}
@@ -24,7 +25,8 @@ abbrev μ-loop : tie.MeasureT-loop
 μ-loop max-move target last₀ count₀ last count = spread last target
 
 -- the calls of a step that moves, together
-step : (m : Float) (l t p : Point) (q d : Float) (b : Bool) → b ≡ same l t → b ≡ false → q ≡ squareSum l t → d ≡ squareRoot q → p ≡ nearer d l t m → moveTowards l t m ≡ Moved p
+step : (m : Float) (l t p : Point) (q d : Float) (b : Bool) → b ≡ same l t → b ≡ false → q ≡ squareSum l t → d ≡ squareRoot q
+    → p ≡ nearer d l t m → moveTowards l t m ≡ Moved p
 unfolding distance
 step m l t p q d b e f g r h = moves l t m (sym e ∙ f) ∙ ap Moved (sym (h ∙ ap (λ (x : Float). nearer x l t m) (r ∙ ap squareRoot g)))
 
@@ -37,55 +39,42 @@ loop-holds c =
     (aimed m s t (c .pre) (search needs) (search needs, search needs, search needs) (search needs, search needs, search needs))
     (set-out m s t (c .pre) (search needs) (search needs, search needs, search needs) (search needs, search needs, search needs))
 
-is-same-requires : tie.Need-is-same-requires Inv-loop μ-loop
-is-same-requires c κs = search needs
-
 returns : tie.Need-returns Inv-loop μ-loop
 returns c =
     let g = c .before .before .loop in
     going-ends _ _ _ (g .last) _ (g .count) (g .inv) (stands _ _ _ (sym (c .before .is-same .ensures) ∙ c .if1 .taken))
 
-square-sum-requires : tie.Need-square-sum-requires Inv-loop μ-loop
-square-sum-requires c κs = search needs
-
-square-root-requires : tie.Need-square-root-requires Inv-loop μ-loop
-square-root-requires c κs = search needs
-
-nearer-requires : tie.Need-nearer-requires Inv-loop μ-loop
-nearer-requires c κs = search needs
-
 add-count : tie.Need-add-count Inv-loop μ-loop
 add-count c =
     let g = c .before .before .before .before .before .loop in
-    record { fits = room (g .count) (going-few _ _ _ (g .last) (g .count) (g .inv)) }
-  where
-    room : (k : ℕ) → k ≤ 147457 → k + 1 < 4294967296
-    room k h = omega arith
+    let few : g .count ≤ 147457 = going-few _ _ _ (g .last) (g .count) (g .inv) in
+    record { fits = omega arith }
 
 loop-less : tie.Need-loop-less Inv-loop μ-loop
 loop-less c =
     let g = c .before .before .before .before .before .loop in
     going-nearer _ _ _ (g .last) (c .nearer .result) (g .count) (g .inv)
-    (step _ _ _ _ _ _ _ (c .before .before .before .before .is-same .ensures) (c .before .before .before .if1 .left) (c .before .before .square-sum .ensures) (c .before .square-root .ensures) (c .nearer .ensures))
+    (step _ _ _ _ _ _ _
+    (c .before .before .before .before .is-same .ensures)
+    (c .before .before .before .if1 .left)
+    (c .before .before .square-sum .ensures)
+    (c .before .square-root .ensures)
+    (c .nearer .ensures))
 
 loop-again : tie.Need-loop-again Inv-loop μ-loop
 loop-again c =
     let g = c .before .before .before .before .before .loop in
     going-on _ _ _ (g .last) (c .nearer .result) (g .count) (g .inv)
-    (step _ _ _ _ _ _ _ (c .before .before .before .before .is-same .ensures) (c .before .before .before .if1 .left) (c .before .before .square-sum .ensures) (c .before .square-root .ensures) (c .nearer .ensures))
+    (step _ _ _ _ _ _ _
+    (c .before .before .before .before .is-same .ensures)
+    (c .before .before .before .if1 .left)
+    (c .before .before .square-sum .ensures)
+    (c .before .square-root .ensures)
+    (c .nearer .ensures))
 
 pub walk-spec : {M : Type 1} → statement M
 walk-spec =
     tie.close
     (tie.spec
-    Inv-loop
-    μ-loop
-    loop-holds
-    is-same-requires
-    returns
-    square-sum-requires
-    square-root-requires
-    nearer-requires
-    add-count
-    loop-less
+    Inv-loop μ-loop loop-holds (λ _ _. tt) returns (λ _ _. tt) (λ _ _. tt) (λ _ _. tt) add-count loop-less
     loop-again)

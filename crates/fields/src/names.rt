@@ -1,0 +1,112 @@
+// The operations' names, their bytes as one number, and the shapes of their lines.
+pub const ABS: u64 = 0x61_6273;
+
+pub const SQRT: u64 = 0x7371_7274;
+
+pub const SIN: u64 = 0x73_696e;
+
+pub const COS: u64 = 0x63_6f73;
+
+pub const ACOS: u64 = 0x6163_6f73;
+
+pub const BITS: u64 = 0x6269_7473;
+
+pub const MIN: u64 = 0x6d_696e;
+
+pub const MAX: u64 = 0x6d_6178;
+
+pub const ATAN2: u64 = 0x61_7461_6e32;
+
+pub const TPROG: u64 = 0x74_7072_6f67;
+
+pub const EPROG: u64 = 0x65_7072_6f67;
+
+pub const SEL: u64 = 0x73_656c;
+
+pub const UPD: u64 = 0x75_7064;
+
+pub const MERGE: u64 = 0x6d_6572_6765;
+
+pub const MV: u64 = 0x6d76;
+
+pub const MVV: u64 = 0x6d_7676;
+
+pub const ITER: u64 = 0x6974_6572;
+
+pub const NEXT: u64 = 0x6e65_7874;
+
+pub const WALK: u64 = 0x7761_6c6b;
+
+pub const MV6: u64 = 0x6d_7636;
+
+pub const ITER6: u64 = 0x69_7465_7236;
+
+pub const NEXT6: u64 = 0x6e_6578_7436;
+
+pub const WALK6: u64 = 0x77_616c_6b36;
+
+pub const LDIST: u64 = 0x6c_6469_7374;
+
+pub const STEP: u64 = 0x7374_6570;
+
+pub const TSTEP: u64 = 0x74_7374_6570;
+
+pub const ESTEP: u64 = 0x65_7374_6570;
+
+pub const SITER: u64 = 0x73_6974_6572;
+
+pub const TITER: u64 = 0x74_6974_6572;
+
+pub const EITER: u64 = 0x65_6974_6572;
+
+pub const SHOULD: u64 = 0x7368_6f75_6c64;
+
+pub const CNEW: u64 = 0x636e_6577;
+
+pub const CWITH: u64 = 0x63_7769_7468;
+
+pub const PLAN: u64 = 0x706c_616e;
+
+pub const IK: u64 = 0x696b;
+
+pub const FK: u64 = 0x666b;
+
+pub const INV: u64 = 0x69_6e76;
+
+pub const FLAG: u64 = 0x666c_6167;
+
+pub const CDEF: u64 = 0x6364_6566;
+
+pub const CONSTS: u64 = 0x636f_6e73_7473;
+
+pub const FLAGS: u64 = 0x66_6c61_6773;
+
+pub const DEFAULTS: u64 = 0x6465_6661_756c_7473;
+
+// What a line holds after its name, a hex digit each: 1 a float, 2 a point, 3 a row, 4 a u32, 5 a bit, 6 seconds,
+// 7 a configuration, 8 as many points as the number before says. A time is 64, a command 2_6415.
+pub fn shape(name: u64) -> u64 {
+    match name {
+        ABS | SQRT | SIN | COS | ACOS | BITS => 0x1,
+        MIN | MAX | ATAN2 => 0x11,
+        TPROG | EPROG => 0x6464,
+        SEL => 0x43,
+        UPD => 0x4483,
+        MERGE => 0x433,
+        MV | MVV | ITER | NEXT => 0x221,
+        WALK => 0x122,
+        MV6 | ITER6 | NEXT6 => 0x331,
+        WALK6 => 0x133,
+        LDIST => 0x33,
+        STEP => 0x333_1155,
+        TSTEP | ESTEP => 0x333_1155_6464,
+        SITER => 0x33_1155,
+        TITER | EITER => 0x3311_5564,
+        SHOULD | CWITH => 0x2_6415,
+        CNEW => 0x2,
+        PLAN => 0x3352_6415,
+        IK | FK => 0x37,
+        INV | FLAG => 0x5,
+        _ => 0,
+    }
+}

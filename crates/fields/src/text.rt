@@ -1,0 +1,106 @@
+// The words of an answer as a line of text, put together from its end, and written out.
+use crate::Words;
+use libc::STDOUT_FILENO;
+ghost use Prim.Native.Nat.{_<_};
+
+// The line's bytes stand from `at` on.
+struct Text {
+    bytes: [u8; 4096],
+    at: usize,
+}
+
+// A byte before the others. No line is as long as 4,096 bytes.
+fn before(t: Text, b: u8) -> Text {
+    let mut t = t;
+    let at = (t.at % 4096 + 4095) % 4096;
+    t.bytes[at] = b;
+    t.at = at;
+    t
+}
+
+// The byte of a digit below 16; a letter is its own.
+fn glyph(d: u64) -> u8 {
+    let b = (d % 256) as u8;
+    if b < 10 {
+        48 + b
+    } else if b < 16 {
+        87 + b
+    } else {
+        b
+    }
+}
+
+// The lowest digit of a number before the others, unless the number is shown already.
+fn digit(t: Text, n: u64, base: u64, due: bool) -> Text
+    requires { ⌜ 0 < base ⌝ }
+{
+    if due | (0 < n) {
+        before(t, glyph(n % base))
+    } else {
+        t
+    }
+}
+
+// A number below 2^32 in digits of a base of 10 at least, `least` of them or more.
+fn spelled(t: Text, n: u64, base: u64, least: u64) -> Text
+    requires { ⌜ 0 < base ⌝ }
+{
+    let mut t = t;
+    let mut n = n;
+    let mut i: u64 = 0;
+    while i < 10 {
+        t = digit(t, n, base, i < least);
+        n = n / base;
+        i += 1;
+    }
+    t
+}
+
+// A word of an answer: eight hex digits, letters, or a decimal number.
+fn word(t: Text, w: u64) -> Text {
+    let n = w % 0x1_0000_0000;
+    match w / 0x1_0000_0000 {
+        0 => spelled(t, n, 16, 8),
+        1 => spelled(t, n, 256, 1),
+        _ => spelled(t, n, 10, 1),
+    }
+}
+
+// The words parted by blanks, and a newline.
+fn of(o: Words) -> Text {
+    let mut t = before(
+        Text {
+            bytes: [0; 4096],
+            at: 0,
+        },
+        10,
+    );
+    let mut i = o[0] % 256;
+    while 1 < i {
+        t = before(word(t, o[i as usize]), 32);
+        i -= 1;
+    }
+    word(t, o[1])
+}
+
+// The bytes from a place on are written out.
+fn written(s: &[u8], at: usize) {
+    let n = s.len();
+    if at <= n {
+        io::write_all(STDOUT_FILENO, &s[at..n]);
+    }
+}
+
+// An answer is written out as a line.
+pub fn print(o: Words) {
+    let t = of(o);
+    let at = t.at;
+    let bytes = t.bytes;
+    written(&bytes, at);
+}
+
+// A line is written out as it came.
+pub fn echo(s: &[u8]) {
+    io::write_all(STDOUT_FILENO, s);
+    io::write_all(STDOUT_FILENO, b"\n");
+}

@@ -1,0 +1,19 @@
+-- `steps::core::height_lrl` meets its contract, case by case.
+use borrow.Author.Needs.{needs}
+use Rattle.steps.proofs.core.height_lrl.Statement.{statement}
+use Rattle.steps.proofs.core.height_lrl.Tie as tie
+
+enum-told : tie.Need-enum-told
+enum-told c = search needs
+
+enum-told-2 : tie.Need-enum-told-2
+enum-told-2 c = search needs
+
+returns : tie.Need-returns
+returns c = simp (c .enum-told .given .1)
+
+returns-2 : tie.Need-returns-2
+returns-2 c = simp (c .enum-told2 .given .1)
+
+pub height-lrl-spec : {M : Type 1} → statement M
+height-lrl-spec = tie.close (tie.spec enum-told enum-told-2 returns returns-2)
