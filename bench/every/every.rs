@@ -293,7 +293,7 @@ impl Run {
         if self.entry.rows.last() == Some(&WALK_MOVE) && self.random.next() & 7 == 0 {
             let last = self.entry.rows.len() - 1;
             self.input.f[last] *= 0.03125;
-            self.input.f[last] = self.input.f[last].max(0.0009765625);
+            self.input.f[last] = self.input.f[last].max(WALK_MOVE.0);
         }
         if self.entry.name == "inverse kinematics" {
             (0..6).for_each(|l| self.aim(l));

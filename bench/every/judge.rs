@@ -17,7 +17,7 @@ pub struct Row(pub f32, pub f32);
 
 pub const FINITE: Row = Row(f32::MIN, f32::MAX);
 pub const FOOT: Row = Row(-4.0, 4.0);
-pub const WALK: Row = Row(-2.0, 2.0);
+pub const WALK: Row = Row(-3.0, 3.0);
 pub const DIRECTION: Row = Row(-1.0, 1.0);
 pub const ROTATION: Row = Row(-4.0, 4.0);
 pub const CORRECTION: Row = Row(-6.0, 6.0);
@@ -25,7 +25,7 @@ pub const OFFSET: Row = Row(-2.0, 2.0);
 pub const LENGTH: Row = Row(0.00390625, 1.0);
 pub const MOTOR: Row = Row(0.0, 8.0);
 pub const MAX_MOVE: Row = Row(0.0, 1.0);
-pub const WALK_MOVE: Row = Row(0.0009765625, 1.0);
+pub const WALK_MOVE: Row = Row(0.000244140625, 1.0);
 pub const ATAN2: Row = Row(-128.0, 128.0);
 
 #[derive(Clone, Copy, Debug, PartialEq)]

@@ -7,7 +7,7 @@ OURS, RUST = ["target/bin/hopper_walk"], [os.path.join(out, "printer")]
 
 
 def record(r):
-    v = [r.uniform(1 / 64, 1 / 2)] + [r.uniform(-2, 2) for _ in range(6)]
+    v = [r.uniform(1 / 64, 1 / 2)] + [r.uniform(-3, 3) for _ in range(6)]
     return b"W" + b"".join(b"\t" + struct.pack(">f", x).hex().encode() for x in v) + b"\n"
 
 

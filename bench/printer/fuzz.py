@@ -59,7 +59,7 @@ def fresh_block(line):
     v = [of_bits(int(x, 16)) for x in r[1][1:].split(b"\t")]
     if not all(math.isfinite(x) for x in v):
         return b"R\t1\n"
-    if not (1 / 1024 <= v[0] <= 1 and all(-2 <= x <= 2 for x in v[1:])):
+    if not (1 / 4096 <= v[0] <= 1 and all(-3 <= x <= 3 for x in v[1:])):
         return b"R\t2\n"
     return walk(v[0], v[1:4], v[4:7])
 
@@ -68,17 +68,17 @@ def listing(data):
     lines = data.split(b"\n")
     if not lines[-1]:
         lines.pop()
-    return b"hopper-walk\t1\n" + b"".join(block(l) for l in lines)
+    return b"hopper-walk\t2\n" + b"".join(block(l) for l in lines)
 
 
 # ---- inputs
 def coordinate(r):
-    return r.choice([0, 0x80000000, 0x3f800000, 0x40000000, 0xc0000000, 0x40000001, 0x7f800000, 0x7fc00000, 1, 0x33800000,
-                     r.getrandbits(32)] + [struct.unpack("<I", struct.pack("<f", r.uniform(-2, 2)))[0] for _ in range(30)])
+    return r.choice([0, 0x80000000, 0x3f800000, 0x40400000, 0xc0400000, 0x40400001, 0xc0400001, 0x7f800000, 0x7fc00000, 1,
+                     0x33800000, r.getrandbits(32)] + [struct.unpack("<I", struct.pack("<f", r.uniform(-3, 3)))[0] for _ in range(30)])
 
 
 def record(r):
-    m = r.choice([0x3a800000, 0x3a7fffff, 0x3f800000, 0x3f800001, 0x3e000000, r.getrandbits(32)]
+    m = r.choice([0x39800000, 0x397fffff, 0x3f800000, 0x3f800001, 0x3e000000, r.getrandbits(32)]
                  + [struct.unpack("<I", struct.pack("<f", r.uniform(0.01, 1)))[0] for _ in range(20)])
     return b"W" + b"".join(b"\t%08x" % x for x in [m] + [coordinate(r) for _ in range(6)])
 

@@ -39,8 +39,8 @@ fn refusal(v: &[f32; 7]) -> u32 {
     if !v.iter().all(|x| x.is_finite()) {
         return 1;
     }
-    let near = v[1..].iter().all(|x| (-2.0..=2.0).contains(x));
-    if (1.0 / 1024.0..=1.0).contains(&v[0]) && near { 0 } else { 2 }
+    let near = v[1..].iter().all(|x| (-3.0..=3.0).contains(x));
+    if (1.0 / 4096.0..=1.0).contains(&v[0]) && near { 0 } else { 2 }
 }
 
 fn step(last: Point, target: Point, m: f32) -> Option<Point> {
@@ -89,7 +89,7 @@ fn main() -> io::Result<()> {
     let mut input = io::BufReader::with_capacity(65536, io::stdin().lock());
     let mut output = io::stdout().lock();
     let mut out: Vec<u8> = Vec::with_capacity(65536);
-    out.extend_from_slice(b"hopper-walk\t1\n");
+    out.extend_from_slice(b"hopper-walk\t2\n");
     let mut line = Vec::new();
     loop {
         line.clear();

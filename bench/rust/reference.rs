@@ -26,7 +26,7 @@ pub const RLR: u32 = 42;
 pub struct Limit(pub f32, pub f32);
 
 pub const FOOT: Limit = Limit(-4.0, 4.0);
-pub const WALK_FOOT: Limit = Limit(-2.0, 2.0);
+pub const WALK_FOOT: Limit = Limit(-3.0, 3.0);
 pub const DIRECTION: Limit = Limit(-1.0, 1.0);
 pub const ROTATION: Limit = Limit(-4.0, 4.0);
 pub const CORRECTION: Limit = Limit(-6.0, 6.0);
@@ -34,7 +34,7 @@ pub const OFFSET: Limit = Limit(-2.0, 2.0);
 pub const LEG_LENGTH: Limit = Limit(1.0 / 256.0, 1.0);
 pub const MOTOR_ANGLE: Limit = Limit(0.0, 8.0);
 pub const MAX_MOVE: Limit = Limit(0.0, 1.0);
-pub const WALK_MOVE: Limit = Limit(1.0 / 1024.0, 1.0);
+pub const WALK_MOVE: Limit = Limit(1.0 / 4096.0, 1.0);
 pub const SINE_ARGUMENT: Limit = Limit(-16.0, 16.0);
 pub const ROOT_ARGUMENT: Limit = Limit(0.0, 65536.0);
 pub const ARC_COSINE_ARGUMENT: Limit = Limit(-1.0, 1.0);

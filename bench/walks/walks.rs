@@ -93,10 +93,11 @@ impl Random {
     fn sign(&mut self) -> f32 {
         if self.next() & 1 == 0 { 1.0 } else { -1.0 }
     }
-    /// One ulp from a power of two, or at it.
+    /// One ulp from a power of two, or at it, or at the limit.
     fn by_a_power(&mut self) -> f32 {
-        let b = ((127 - (self.next() % 40) as u32) << 23) + (self.next() % 3) as u32 - 1;
-        f32::from_bits(b).min(2.0) * self.sign()
+        let k = (self.next() % 41) as u32;
+        let b = ((128 - k) << 23) + (self.next() % 3) as u32 - 1;
+        (if k == 40 { WALK_FOOT.1 } else { f32::from_bits(b) }) * self.sign()
     }
     fn tiny(&mut self) -> f32 {
         f32::from_bits((self.next() % 0x2000_0000) as u32) * self.sign()
@@ -128,18 +129,19 @@ fn main() {
     let (mut tried, mut failed, mut steps, mut longest) = (0u64, 0u64, 0u64, 0u64);
     assert!(Whole::ZERO.less(Whole::units(f32::from_bits(1))));
     for i in 0..count {
-        let m = if i % 64 == 0 { 1.0 / 1024.0 } else { (1.0 / 1024.0f32).powf(r.unit()).max(1.0 / 1024.0) };
+        let m = if i % 64 == 0 { WALK_MOVE.0 } else { WALK_MOVE.0.powf(r.unit()).max(WALK_MOVE.0) };
         let p = |r: &mut Random| match i % 4 {
-            0 => [r.between(-2.0, 2.0), r.between(-2.0, 2.0), r.between(-2.0, 2.0)],
+            0 => [r.between(-3.0, 3.0), r.between(-3.0, 3.0), r.between(-3.0, 3.0)],
             1 => [r.by_a_power(), r.by_a_power(), r.by_a_power()],
-            2 => [r.between(-2.0, 2.0), r.tiny().clamp(-2.0, 2.0), r.tiny().clamp(-2.0, 2.0)],
+            2 => [r.between(-3.0, 3.0), r.tiny().clamp(-3.0, 3.0), r.tiny().clamp(-3.0, 3.0)],
             _ => [r.between(-0.3, 0.3), r.between(-0.3, 0.3), r.between(-0.3, 0.3)],
         };
-        let (a, b) = (p(&mut r), p(&mut r));
+        // the first goes from corner to corner by the least move
+        let (a, b) = if i == 0 { ([WALK_FOOT.0; 3], [WALK_FOOT.1; 3]) } else { (p(&mut r), p(&mut r)) };
         let (s, t) = (Point { x: a[0], y: a[1], z: a[2] }, Point { x: b[0], y: b[1], z: b[2] });
         // a quarter of the short walks: m just below the distance, so that the last step is a crumb
         let d = distance(&s, &t);
-        let m = if i % 16 == 3 && d > 1.0 / 512.0 && d < 1.0 { f32::from_bits(d.to_bits() - 1 - (i >> 4) as u32 % 3) } else { m };
+        let m = if i % 16 == 3 && d > 2.0 * WALK_MOVE.0 && d < 1.0 { f32::from_bits(d.to_bits() - 1 - (i >> 4) as u32 % 3) } else { m };
         let row = [a[0], a[1], a[2], b[0], b[1], b[2], m];
         let answer = unsafe { probe_walk(row.as_ptr(), 7) };
         let outcome = if answer >> 32 != 0 { Err(format!("refusal {}", answer >> 32)) } else { check(m, &s, &t, answer) };
@@ -156,7 +158,7 @@ fn main() {
         if i % 1000 == 0 {
             let mut six = vec![];
             for _ in 0..36 {
-                six.push(r.between(-2.0, 2.0));
+                six.push(r.between(-3.0, 3.0));
             }
             six.push(m);
             let each = (0..6).map(|l| {

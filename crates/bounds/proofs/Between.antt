@@ -9,9 +9,9 @@ use native.Mathlib.Nat.{le-trans, le-refl, le-of-eq, lt-of-le-of-lt, lt-of-lt-of
 use native.Mathlib.Nat.{mul-lt-mul-of-pos-right, mul-pos}
 use native.Mathlib.Omega.{arith}
 use lib.Dec.{T, lit≤}
-use lib.Ieee.{Float, nan, inf, fin, binary32, down, add, sub, mul, div, neg, le, fits}
+use lib.Ieee.{Float, nan, inf, fin, binary32, down, add, sub, mul, div, neg, fits}
 use lib.Ieee.Exact.{HasValue}
-use lib.Ieee.Fits.{and-i, add-fits, sub-fits, mul-fits, div-fits, neg-fits}
+use lib.Ieee.Fits.{add-fits, sub-fits, mul-fits, div-fits, neg-fits}
 use lib.Ieee.Scale.{overflow}
 use Rattle.numbers.specs.Door.{finite, permits}
 use Rattle.numbers.specs.Finite.{magnitude}
@@ -22,9 +22,8 @@ use Rattle.units.proofs.Values.{hi-is, lo-is, units-of, one-side, plus-part, ma
 use Rattle.units.proofs.Add.{add-part, sub-part, neg-part}
 use Rattle.units.proofs.Multiply.{sq-value}
 use Rattle.units.proofs.Held.{grid-exact}
-use Rattle.units.proofs.Order.{le-part}
 use Rattle.units.proofs.Errors.{unity-pos, rounded-mono}
-use Rattle.units.proofs.Door.{finite-is, Ends, permitted}
+use Rattle.units.proofs.Door.{finite-is, Ends, permitted, permits-part}
 use Rattle.units.proofs.Values.{Signed, signed, plus, minus}
 use Rattle.units.proofs.Bounds.{Result, mul-most, div-most}
 use Rattle.roots.specs.Root.{squareRoot}
@@ -241,9 +240,8 @@ module _ (l : Limit) (p n q : ℕ) (e : Ends l p n q 0) (N Q : ℕ) (below : n �
 module _ (l : Limit) (n q : ℕ) (e : Ends l 0 n q 0) {N Q : ℕ} (below : N * unity ≤ n) (above : Q * unity ≤ q) {x : Float} where
   pub in-the-table : Between N Q x → T (permits l x)
   in-the-table b =
-      and-i (le (l .from) x) (le x (l .to))
-      (le-part binary32 (l .from) x 0 n (hi x) (lo x) (e .from) (b .ok) .1 (from (hi x) (lo x) (le-trans (b .low) below)))
-      (le-part binary32 x (l .to) (hi x) (lo x) q 0 (b .ok) (e .to) .1 (to (hi x) (lo x) (le-trans (b .high) above)))
+      permits-part l 0 n q 0 e x (hi x) (lo x) (b .ok)
+      (from (hi x) (lo x) (le-trans (b .low) below)) (to (hi x) (lo x) (le-trans (b .high) above))
     where
       from : (i j : ℕ) → j ≤ n → 0 + j ≤ n + i
       from i j h = omega arith

@@ -5,7 +5,7 @@ use mathlib.Core.List.{List, [], _∷_}
 use native.Mathlib.Omega.{arith}
 use mathlib.Core.Bool.{Bool, _&&_}
 use lib.Dec.{T}
-use lib.Ieee.Fits.{and-l, and-r}
+use lib.Ieee.Fits.{and-i, and-l, and-r}
 use lib.ListN.{length}
 use Rattle.legs.specs.Legs.{Leg, leftFront, rightFront, leftMiddle, rightMiddle, leftRear, rightRear}
 use Rattle.legs.specs.Legs.{row, every, foot, feet, fromRow}
@@ -54,3 +54,12 @@ each-of-every b h =
     at lf rf lm rm lr rr rightMiddle = rm
     at lf rf lm rm lr rr leftRear = lr
     at lf rf lm rm lr rr rightRear = rr
+
+-- and back
+pub every-of-each : (b : Leg → Bool) → ((l : Leg) → T (b l)) → T (every b)
+every-of-each b h =
+    and-i (b leftFront && b rightFront && b leftMiddle && b rightMiddle && b leftRear) (b rightRear)
+    (and-i (b leftFront && b rightFront && b leftMiddle && b rightMiddle) (b leftRear)
+    (and-i (b leftFront && b rightFront && b leftMiddle) (b rightMiddle)
+    (and-i (b leftFront && b rightFront) (b leftMiddle)
+    (and-i (b leftFront) (b rightFront) (h leftFront) (h rightFront)) (h leftMiddle)) (h rightMiddle)) (h leftRear)) (h rightRear)

@@ -10,3 +10,4 @@ pub mod Counts
 mod Rows
 pub mod Records
 pub mod Listings
+pub mod Versions

@@ -1,5 +1,6 @@
 -- Document 01, "The walk printer": "floats as eight lower-case hex digits of their bits", "Counts have one to five
--- decimal digits, no leading zero". How numbers are written, and how bytes are read as digits.
+-- decimal digits, no leading zero". How numbers are written, and how bytes are read as digits. How many digits a count may have is a
+-- limit here, since it depends on the listing's version (request K9): specs/Lines has it.
 use Prim.Native.Nat.{ℕ, zero, suc, _+_, _-_, _*_, _/_, _%_}
 use mathlib.Core.Bool.{Bool, true, false, _&&_, _||_, not}
 use mathlib.Core.List.{List, [], _∷_, _++_}

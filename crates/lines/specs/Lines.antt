@@ -2,11 +2,11 @@
 use Prim.Native.Nat.{ℕ, _+_, _≤_}
 use mathlib.Core.Bool.{Bool}
 use mathlib.Core.List.{List, [], _∷_, _++_}
-use lib.Dec.{leb}
+use lib.Dec.{eqb, leb}
 use lib.ListN.{length}
+use Rattle.numbers.specs.Told.{choose}
 use Rattle.lines.specs.Digits.{hex, decimal}
 use Rattle.lines.specs.Fields.{tab, newline, parted, AreBits}
-use Rattle.lines.specs.declared.listed.Moved.{Moved}
 use Rattle.lines.specs.declared.listed.Line.{Line}
 use Rattle.lines.specs.declared.listed.Line.the-variants.{Header, Move, Arrived, Refused}
 
@@ -35,6 +35,11 @@ written line = ended (body line)
 -- no line is longer than 40 bytes
 abbrev pub hasRoom : List ℕ → ℕ → Bool
 hasRoom buf at = leb (at + 40) (length buf)
+
+-- how many digits a count has at most, by the listing's version: document 01 has version 1, "one to five"; request K9 has version 2, "up to
+-- six". No other version is one, and without a version nothing is a count
+unfoldable pub countDigits : ℕ → ℕ
+countDigits version = choose (eqb version 1) 5 (choose (eqb version 2) 6 0)
 
 -- the lines of a listing: counts and numbers of at most limit digits (nine at most), floats of 32 bits
 abbrev pub Digited : ℕ → ℕ → Type 0

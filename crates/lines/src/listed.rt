@@ -10,7 +10,7 @@ ghost use lib.ListN.{length, getD};
 ghost use Rattle.numbers.specs.Told.{choose};
 ghost use Rattle.lines.specs.Reading.{named, headerOf, moveOf, lineOf};
 ghost use Rattle.lines.specs.Stored.{Stored};
-ghost use Rattle.lines.specs.Lines.{written, ended, lettered, hasRoom};
+ghost use Rattle.lines.specs.Lines.{written, ended, lettered, hasRoom, countDigits};
 
 // A step that moved: its count from 1, and the new point as bit patterns.
 pub struct Moved {
@@ -87,6 +87,17 @@ pub fn put_line(buf: &mut [u8], at: usize, line: Line) -> usize
     }
 }
 
+// How many digits a count has at most in a listing of this version: five in version 1, six in version 2, and none in any other, which
+// is no version.
+pub fn count_digits(version: u32) -> usize
+    ensures { λ r. ⌜ r ≡ countDigits version ⌝ }
+{
+    if version == 1 {
+        return 5;
+    }
+    if version == 2 { 6 } else { 0 }
+}
+
 // A line where the bytes were good.
 fn known(good: bool, line: Line) -> Found
     ensures { λ r. ⌜ r ≡ choose good (Found.Known line) Found.NoLine ⌝ }
@@ -161,7 +172,8 @@ fn move_of(s: &[u8], limit: usize) -> Found
     known(good, line)
 }
 
-// The line that some bytes are, without their newline. Counts have at most `limit` digits, and never more than nine.
+// The line that some bytes are, without their newline. Counts have at most `limit` digits, which is `count_digits` of the listing's
+// version, and never more than nine.
 pub fn line_of(s: &[u8], limit: usize) -> Found
     ensures { λ r. ⌜ r ≡ lineOf limit (now (s .entry)) ⌝ }
 {

@@ -1,7 +1,7 @@
 -- A block's lines, one after the other, join to the block; what is left of a walk's block is that of document 01.
 use mathlib.Core.Path.{_≡_, refl, sym, ap, _∙_, subst}
 use mathlib.Core.Bool.{Bool, true, false, not, _&&_}
-use mathlib.Core.List.{List, [], _∷_, _++_, append-assoc, append-nil}
+use mathlib.Core.List.{List, [], _++_, append-assoc, append-nil}
 use Prim.Native.Nat.{ℕ, zero, suc, _+_, _-_, _≤_, _<_}
 use native.Mathlib.Omega.{arith}
 use native.Mathlib.Numerals.{add-one}
@@ -17,7 +17,6 @@ use Rattle.walks.specs.Walk.{pointAfter, Walk}
 use Rattle.walks.specs.Answers.{walkRefusal}
 use Rattle.walks.proofs.Aim.{Fit}
 use Rattle.walks.proofs.Ends.{let-in-ends}
-use Rattle.walks.proofs.Table.{at-most-24577}
 use Rattle.numbers.specs.Told.{choose}
 use Rattle.lines.specs.Stored.{Stored}
 use Rattle.lines.specs.Lines.{written, hasRoom}
@@ -135,10 +134,10 @@ module _ (r : Rest) (going : r .done ≡ false) where
   unfolding afterOf movesOn
   fewer = fewer-by (not (same (r .last) (r .target))) (ltb (r .made) mostSteps) refl
 
--- a step that follows has a number of five digits
+-- the number of a step that follows is a u32 (of six digits: proofs/ReadBack)
 pub made-fits : (l t : Point) (k : ℕ) → movesOn l t k ≡ true → k + 1 < 4294967296
 unfolding movesOn mostSteps
-made-fits l t k e = let h : k < 24577 = ltb-true k 24577 (is-fit (same l t) (ltb k 24577) e) in omega arith
+made-fits l t k e = let h : k < 147457 = ltb-true k 147457 (is-fit (same l t) (ltb k 147457) e) in omega arith
 
 pub fewer-after : (r q : Rest) → r .done ≡ false → q ≡ afterOf r → linesLeft q < linesLeft r
 fewer-after r q going is = subst (λ (p : Rest). linesLeft p < linesLeft r) (sym is) (fewer r going)
@@ -171,7 +170,7 @@ given-walk : (m : Float) (s t : Point) → Fit m → Each Fit s → Each Fit t �
 unfolding textOf mostSteps
 given-walk m s t Fm Fs Ft e =
     let w = let-in-ends m s t Fm Fs Ft e in
-    (w .0, rw e (walk-left m s t (w .0) (w .1) (at-most-24577 m s t Fm Fs Ft e (w .0) (w .1))), λ z. w .1)
+    (w .0, rw e (walk-left m s t (w .0) (w .1) (w .2)), λ z. w .1)
 
 refused-walk : (m : Float) (s t : Point) (n : ℕ) (text : List ℕ) → walkRefusal m s t ≡ n → (n ≡ 0 → ⊥) → text ≡ written (endLine 0 n)
     → WalkPrints m s t text

@@ -1,2 +1,3 @@
 pub mod Cutting
 pub mod Blocks
+pub mod ReadBack

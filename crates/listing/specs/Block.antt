@@ -2,7 +2,7 @@
 use Prim.Native.Nat.{ℕ, zero, suc, _+_, _-_}
 use mathlib.Core.Path.{_≡_}
 use mathlib.Core.Bool.{Bool, true, false, not, _&&_}
-use mathlib.Core.List.{List, [], _∷_, _++_}
+use mathlib.Core.List.{List, [], _++_}
 use lib.Dec.{eqb, ltb}
 use lib.Ieee.{Float}
 use Rattle.legs.specs.declared.Point.{Point}
@@ -20,9 +20,9 @@ use Rattle.listing.specs.declared.block.Rest.{Rest}
 abbrev pub endLine : ℕ → ℕ → Line
 endLine count refused = choose (eqb refused 0) (Arrived count) (Refused refused)
 
--- the most steps that a block shows: no walk within document 01's table has more
+-- the most steps that a block shows: no walk within the table of permitted numbers has more
 unfoldable pub mostSteps : ℕ
-mostSteps = 24577
+mostSteps = 147457
 
 -- whether another step follows, after k of them, at l
 unfoldable pub movesOn : Point → Point → ℕ → Bool

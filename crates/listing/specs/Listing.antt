@@ -1,4 +1,4 @@
--- Document 01, "The walk printer": what is printed for a line, and for a whole input.
+-- Document 01, "The walk printer", with the header of request K9: what is printed for a line, and for a whole input.
 use Prim.Native.Nat.{ℕ, zero, suc}
 use mathlib.Core.Path.{_≡_}
 use mathlib.Core.List.{List, [], _∷_, _++_, map}
@@ -15,7 +15,7 @@ use Rattle.lines.specs.declared.listed.Line.the-variants.{Header, Move, Arrived
 use Rattle.lines.specs.declared.record.Place.{Place}
 use Rattle.lines.specs.declared.record.Asked.{Asked}
 use Rattle.lines.specs.declared.record.Asked.the-variants.{Record, NoRecord}
-use Rattle.listing.specs.Carry.{Lines, linesFrom}
+use Rattle.listing.specs.Carry.{linesFrom}
 
 -- a record's place as a point
 abbrev pub pointAt : Place → Point
@@ -58,6 +58,11 @@ abbrev pub AllPrint : List Asked → List ℕ → Type 0
 AllPrint [] text = text ≡ []
 AllPrint (a ∷ as') text = (first : List ℕ) × (others : List ℕ) × (text ≡ first ++ others) × Prints a first × AllPrint as' others
 
+-- request K9: "listings get header `hopper-walk`, tab, `2`"
+abbrev pub listingVersion : ℕ
+listingVersion = 2
+
 -- "The header comes first"
 abbrev pub Listing : List ℕ → List ℕ → Type 0
-Listing input text = (blocks : List ℕ) × (text ≡ written (Header 1) ++ blocks) × AllPrint (map recordOf (inputLines input)) blocks
+Listing input text =
+    (blocks : List ℕ) × (text ≡ written (Header listingVersion) ++ blocks) × AllPrint (map recordOf (inputLines input)) blocks

@@ -16,7 +16,7 @@ ghost use Rattle.numbers.specs.Told.{choose};
 ghost use Rattle.lines.specs.Stored.{Stored};
 ghost use Rattle.lines.specs.Lines.{written, hasRoom};
 ghost use Rattle.lines.specs.declared.listed.Line.the-variants.{Header};
-ghost use Rattle.listing.specs.Listing.{pointAt, step, WalkPrints, Prints};
+ghost use Rattle.listing.specs.Listing.{pointAt, step, WalkPrints, Prints, listingVersion};
 ghost use Rattle.listing.specs.Block.{endLine, textOf, movesOn, afterOf, lineOf, Part};
 
 // What is left of a block: after `made` steps the walk stands at `last`; once it is at `target`, `A` and the count, or
@@ -96,14 +96,14 @@ pub fn whole(a: Asked) -> Rest
     }
 }
 
-// Whether another step follows. No walk that is not refused has more than 24,577.
+// Whether another step follows. No walk that is not refused has more than 147,457.
 fn moves_on(last: Point, target: Point, made: u32) -> bool
     ensures { λ r. ⌜ r ≡ movesOn last target made ⌝ }
 {
     if moves::core::is_same(last, target) {
         return false;
     }
-    made < 24577
+    made < 147457
 }
 
 // After the next line of the block.
@@ -165,9 +165,10 @@ fn line(r: Rest) -> Line
 
 // The header.
 pub fn header(buf: &mut [u8], at: usize) -> usize
-    ensures { λ r. ⌜ Stored (now (buf .entry)) at (choose (hasRoom (now (buf .entry)) at) (written (Header 1)) []) r (now (buf .exit)) ⌝ }
+    ensures { λ r. ⌜ Stored (now (buf .entry)) at (choose (hasRoom (now (buf .entry)) at) (written (Header listingVersion)) [])
+        r (now (buf .exit)) ⌝ }
 {
-    listed::put_line(buf, at, Line::Header(1))
+    listed::put_line(buf, at, Line::Header(2))
 }
 
 // Lines of the block stored from `at` on, until it is done or the buffer has less than a line's room, 40 bytes.

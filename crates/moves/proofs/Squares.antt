@@ -1,12 +1,11 @@
 -- The sum of squares in units. What the door lets in gives a sum within the root's own limit, so a step hands the root nothing that the
 -- root's door refuses.
-use mathlib.Core.Bool.{false, _&&_}
+use mathlib.Core.Bool.{false}
 use Prim.Native.Nat.{ℕ, _+_, _-_, _*_, _^_, _≤_, _<_, zero-le}
 use native.Mathlib.Nat.{le-trans, lt-of-le-of-lt, mul-pos, mul-le-mul, mul-lt-mul-of-pos-right, add-le-add}
 use native.Mathlib.Omega.{arith}
 use lib.Dec.{T, lit<, lit≤}
-use lib.Ieee.{Float, binary32, sub, mul, le, fits}
-use lib.Ieee.Fits.{and-i, and-l, and-r}
+use lib.Ieee.{Float, binary32, sub, mul, fits}
 use lib.Ieee.Exact.{HasValue}
 use lib.Ieee.Scale.{overflow}
 use Rattle.numbers.specs.Door.{permits}
@@ -16,13 +15,13 @@ use Rattle.units.proofs.Grid.{cell-le}
 use Rattle.units.proofs.Values.{plus-part}
 use Rattle.units.proofs.Add.{add-value, sub-part}
 use Rattle.units.proofs.Multiply.{sq-value}
-use Rattle.units.proofs.Order.{le-part}
 use Rattle.units.proofs.Errors.{unity-pos, sum-le}
-use Rattle.units.proofs.Door.{permitted, permitted-parts}
+use Rattle.units.proofs.Door.{permitted, permitted-parts, permits-part}
 use Rattle.units.proofs.Table.{foot-ends, root-argument-ends}
 use Rattle.legs.specs.Legs.{permittedPoint}
 use Rattle.legs.specs.declared.Point.{Point}
 use Rattle.moves.specs.Distance.{Each, squareSum, horizontalSum}
+use Rattle.moves.proofs.Refusals.{each-permitted}
 
 -- ---- one difference, rounded: a - b units, and its size
 abbrev pub diff : ℕ → ℕ → ℕ
@@ -126,11 +125,7 @@ module _ (l t : Point) (n : Near l t) where
 -- ---- within the root's limit
 root-permits : (x : Float) (a : ℕ) → HasValue x false a unity → a ≤ 2 ^ 165 → T (permits rootArgument x)
 root-permits x a v h =
-    let p = plus-part binary32 x a v in
-    let e = root-argument-ends in
-    and-i (le (rootArgument .from) x) (le x (rootArgument .to))
-    (le-part binary32 (rootArgument .from) x 0 0 a 0 (e .from) p .1 zero-le)
-    (le-part binary32 x (rootArgument .to) a 0 (2 ^ 165) 0 p (e .to) .1 (same h))
+    permits-part rootArgument 0 0 (2 ^ 165) 0 root-argument-ends x a 0 (plus-part binary32 x a v) zero-le (same h)
   where
     same : {b : ℕ} → a ≤ b → a + 0 ≤ 0 + b
     same {b} h = omega arith
@@ -143,17 +138,6 @@ eighteen : (a b c d u : ℕ) → a ≤ 4 * u → b ≤ 4 * u → c ≤ 4 * u →
 eighteen a b c d u x y z w = omega arith
 
 module _ (a b : Point) (Fa : Each Fit a) (Fb : Each Fit b) (pa : T (permittedPoint footLimit a)) (pb : T (permittedPoint footLimit b)) where
-  each-permitted : (p : Point) → T (permittedPoint footLimit p) → Each (λ x. T (permits footLimit x)) p
-  unfolding permittedPoint
-  each-permitted p h =
-      let xy = and-l (permits footLimit (p .x) && permits footLimit (p .y)) (permits footLimit (p .z)) h in (
-        and-l (permits footLimit (p .x)) (permits footLimit (p .y)) xy,
-        and-r (permits footLimit (p .x))
-            (permits footLimit (p .y)) xy,
-        and-r (permits footLimit (p .x) && permits footLimit (p .y))
-            (permits footLimit (p .z)) h,
-      )
-
   units : (x : Float) → Fit x → T (permits footLimit x) → Units x
   units x F h = permitted footLimit 0 (4 * unity) (4 * unity) 0 foot-ends x F h .single .ok
 
@@ -165,8 +149,8 @@ module _ (a b : Point) (Fa : Each Fit a) (Fb : Each Fit b) (pa : T (permittedPoi
 
   near : Near a b
   near =
-      let p = each-permitted a pa in
-      let q = each-permitted b pb in
+      let p = each-permitted footLimit a pa in
+      let q = each-permitted footLimit b pb in
       record {
         from = (units (a .x) (Fa .0) (p .0), units (a .y) (Fa .1) (p .1), units (a .z) (Fa .2) (p .2));
         to = (units (b .x) (Fb .0) (q .0), units (b .y) (Fb .1) (q .1), units (b .z) (Fb .2) (q .2));

@@ -1,6 +1,6 @@
 -- Document 01, "Permitted numbers", row by row in its order. Every other room cites these names.
-use Prim.Native.Nat.{ℕ, _*_, _^_, _≤_}
-use mathlib.Core.Bool.{Bool, true, false}
+use Prim.Native.Nat.{ℕ, _*_, _^_}
+use mathlib.Core.Bool.{true, false}
 use lib.Ieee.{Float, binary32, round}
 use Rattle.numbers.specs.declared.door.Limit.{Limit}
 
@@ -18,10 +18,10 @@ unfoldable pub footLimit : Limit
 unfolding over minus
 footLimit = record { from = minus 4 1; to = over 4 1 }
 
--- the same, in a walk: -2 to 2
+-- the same, in a walk: -3 to 3 (request K9)
 unfoldable pub walkFoot : Limit
 unfolding over minus
-walkFoot = record { from = minus 2 1; to = over 2 1 }
+walkFoot = record { from = minus 3 1; to = over 3 1 }
 
 -- direction x, y; step height; descent: -1 to 1
 unfoldable pub direction : Limit
@@ -58,10 +58,10 @@ unfoldable pub maxMove : Limit
 unfolding over minus
 maxMove = record { from = over 0 1; to = over 1 1 }
 
--- max move, walk: 1/1024 to 1
+-- max move, walk: 1/4096 to 1 (request K9)
 unfoldable pub walkMove : Limit
 unfolding over minus
-walkMove = record { from = over 1 1024; to = over 1 1 }
+walkMove = record { from = over 1 4096; to = over 1 1 }
 
 -- elapsed: 0 to 3600 s, and nanoseconds below 10^9
 abbrev pub elapsedSeconds : ℕ

@@ -18,8 +18,8 @@ pub fn walk_foot() -> Limit
     ensures { λ r. ⌜ r ≡ rows.walkFoot ⌝ }
 {
     Limit {
-        from: -2.0,
-        to: 2.0,
+        from: -3.0,
+        to: 3.0,
     }
 }
 
@@ -92,7 +92,7 @@ pub fn walk_move() -> Limit
     ensures { λ r. ⌜ r ≡ rows.walkMove ⌝ }
 {
     Limit {
-        from: 0.0009765625,
+        from: 0.000244140625,
         to: 1.0,
     }
 }

@@ -1,14 +1,14 @@
 -- From the door's tests to units: what is finite and permitted is a whole number of units, between the units of the two ends.
 use mathlib.Core.Path.{_≡_, refl, sym, _∙_, subst}
 use mathlib.Core.Logic.{_⊎_, inl, inr}
-use Prim.Native.Nat.{ℕ, _+_, _≤_}
+use Prim.Native.Nat.{ℕ, _+_, _≤_, _<_}
 use native.Mathlib.Nat.{le-trans, le-of-eq}
 use native.Mathlib.Omega.{arith}
 use mathlib.Core.Bool.{Bool, true, not}
 use lib.Dec.{T}
 use lib.Ieee.{Float, nan, inf, fin, binary32, fits, isNan, le}
 use lib.Ieee.Bits.{is-true}
-use lib.Ieee.Fits.{and-l, and-r}
+use lib.Ieee.Fits.{and-i, and-l, and-r}
 use lib.Ieee.Exact.{HasValue}
 use lib.Ieee.Scale as scale
 use Rattle.numbers.specs.Door.{finite, permits}
@@ -74,6 +74,13 @@ permitted l p n q r e x F h =
       to = le-part binary32 x (l .to) (hi x) (lo x) q r (s .ok) (e .to) .0 b;
     }
 
+-- and back: what lies between the ends is permitted
+pub permits-part : (l : Limit) (p n q r : ℕ) → Ends l p n q r → (x : Float) (i j : ℕ) → Part binary32 x i j → p + j ≤ n + i → i + r ≤ j + q
+    → T (permits l x)
+permits-part l p n q r e x i j h a b =
+    and-i (le (l .from) x) (le x (l .to)) (le-part binary32 (l .from) x p n i j (e .from) h .1 a)
+    (le-part binary32 x (l .to) i j q r h (e .to) .1 b)
+
 -- the magnitude is at most the larger end's
 pub permitted-mag : (l : Limit) (p n q r : ℕ) → Ends l p n q r → (k : ℕ) → p + n ≤ k → q + r ≤ k
     → (x : Float) → T (fits binary32 x) → T (permits l x) → mag x ≤ k
@@ -105,3 +112,28 @@ permitted-above l p q r e x F h =
     above : (i j : ℕ) → (i ≡ 0) ⊎ (j ≡ 0) → p + j ≤ 0 + i → (p ≤ i) × (j ≡ 0)
     above i j (inl z) u = (omega arith, omega arith)
     above i j (inr z) u = (omega arith, omega arith)
+
+-- and back, of a magnitude between -k and k, and of a number above zero
+pub permits-mag : (l : Limit) (k : ℕ) → Ends l 0 k k 0 → (x : Float) → Single x → mag x ≤ k → T (permits l x)
+permits-mag l k e x w h = permits-part l 0 k k 0 e x (hi x) (lo x) (w .ok) (low (hi x) (lo x) s) (high (hi x) (lo x) s)
+  where
+    s : hi x + lo x ≤ k
+    s = le-trans (le-of-eq (sym (mag-parts x))) h
+
+    low : (i j : ℕ) → i + j ≤ k → 0 + j ≤ k + i
+    low i j h = omega arith
+
+    high : (i j : ℕ) → i + j ≤ k → i + 0 ≤ j + k
+    high i j h = omega arith
+
+pub permits-above : (l : Limit) (p q : ℕ) → Ends l p 0 q 0 → (x : Float) → Single x → 0 < hi x → p ≤ hi x → hi x ≤ q → T (permits l x)
+permits-above l p q e x w some from to =
+    permits-part l p 0 q 0 e x (hi x) (lo x) (w .ok)
+    (low (hi x) (lo x) (one-side binary32 x (hi x) (lo x) (w .ok)) some from) (high (hi x) (lo x) to)
+  where
+    low : (i j : ℕ) → (i ≡ 0) ⊎ (j ≡ 0) → 0 < i → p ≤ i → p + j ≤ 0 + i
+    low i j (inl z) s h = omega arith
+    low i j (inr z) s h = omega arith
+
+    high : (i j : ℕ) → i ≤ q → i + 0 ≤ j + q
+    high i j h = omega arith

@@ -9,7 +9,7 @@ pub foot-ends : Ends rows.footLimit 0 (4 * unity) (4 * unity) 0
 unfolding rows.footLimit
 foot-ends = record { from = (refl, refl); to = (refl, refl) }
 
-pub walk-foot-ends : Ends rows.walkFoot 0 (2 * unity) (2 * unity) 0
+pub walk-foot-ends : Ends rows.walkFoot 0 (3 * unity) (3 * unity) 0
 unfolding rows.walkFoot
 walk-foot-ends = record { from = (refl, refl); to = (refl, refl) }
 
@@ -37,7 +37,7 @@ pub max-move-ends : Ends rows.maxMove 0 0 unity 0
 unfolding rows.maxMove
 max-move-ends = record { from = (refl, refl); to = (refl, refl) }
 
-pub walk-move-ends : Ends rows.walkMove (2 ^ 139) 0 unity 0
+pub walk-move-ends : Ends rows.walkMove (2 ^ 137) 0 unity 0
 unfolding rows.walkMove
 walk-move-ends = record { from = (refl, refl); to = (refl, refl) }
 

@@ -19,7 +19,7 @@ use Rattle.moves.specs.Moving.{moveTowards, pointOf}
 use Rattle.moves.proofs.Steps.{stands}
 use Rattle.moves.proofs.FootByFoot.{each-foot}
 use Rattle.walks.specs.Walk.{pointAfter, feetAfter, Walk, WalkFeet, larger, largest, allArrived}
-use Rattle.legs.proofs.Laws.{each-of-every}
+use Rattle.legs.proofs.Laws.{each-of-every, every-of-each}
 
 -- ---- each foot's way is its own
 pub each-foot-after : (m : Float) (s t : Feet) (k : ℕ) (l : Leg) → foot (feetAfter m s t k) l ≡ pointAfter m (foot s l) (foot t l) k
@@ -123,17 +123,6 @@ module _ (g : Leg → ℕ) where
       (or-else three (g rightMiddle) rightMiddle refl
       (or-else two (g leftMiddle) leftMiddle refl
       (or-else (g leftFront) (g rightFront) rightFront refl (leftFront, refl)))))
-
--- ---- all six
-pub every-of-each : (b : Leg → Bool) → ((l : Leg) → T (b l)) → T (every b)
-every-of-each b h =
-    and-i (b leftFront && b rightFront && b leftMiddle && b rightMiddle && b leftRear) (b rightRear)
-    (and-i (b leftFront && b rightFront && b leftMiddle && b rightMiddle) (b leftRear)
-    (and-i (b leftFront && b rightFront && b leftMiddle) (b rightMiddle)
-    (and-i (b leftFront && b rightFront) (b leftMiddle) (and-i (b leftFront) (b rightFront) (h leftFront) (h rightFront)) (h leftMiddle))
-    (h rightMiddle))
-    (h leftRear))
-    (h rightRear)
 
 module _ (m : Float) (s t : Feet) where
   at-foot : (k : ℕ) (l : Leg) → same (foot (feetAfter m s t k) l) (foot t l) ≡ same (pointAfter m (foot s l) (foot t l) k) (foot t l)

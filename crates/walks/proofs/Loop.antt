@@ -1,7 +1,7 @@
 -- The walk's loop: what holds after k steps, what one more does to it, that k stays small, and what it says at the end.
 use mathlib.Core.Path.{_≡_, refl, sym, ap, _∙_, subst}
 use mathlib.Core.Logic.{_⊎_, inl, inr, ⊎-elim}
-use Prim.Native.Nat.{ℕ, _+_, _*_, _^_, _≤_, _<_}
+use Prim.Native.Nat.{ℕ, _+_, _*_, _≤_, _<_}
 use native.Mathlib.Nat.{eq-or-lt-of-le, lt-of-lt-of-le}
 use native.Mathlib.Numerals.{add-one}
 use native.Mathlib.Omega.{arith}
@@ -9,7 +9,7 @@ use mathlib.Core.Bool.{Bool, not}
 use lib.Dec.{T}
 use lib.Pow.{pow-pos}
 use lib.Ieee.{Float}
-use Rattle.units.specs.Units.{unity, mag}
+use Rattle.units.specs.Units.{mag}
 use Rattle.units.proofs.Door.{holds}
 use Rattle.legs.specs.declared.Point.{Point}
 use Rattle.moves.specs.Distance.{same}
@@ -18,7 +18,7 @@ use Rattle.moves.specs.declared.MoveStep.the-variants.{Moved, Arrived}
 use Rattle.moves.proofs.Steps.{was-elsewhere, was-there}
 use Rattle.walks.specs.Walk.{pointAfter, spread, Walk}
 use Rattle.walks.proofs.Aim.{Aim, OnWay}
-use Rattle.walks.proofs.Few.{most-steps}
+use Rattle.walks.proofs.Few.{few-steps}
 use Rattle.walks.proofs.Steps.{moved}
 
 -- after k steps from s the walk is at l
@@ -107,9 +107,4 @@ module _ (m : Float) (s t : Point) where
   }
 
   pub going-few : (l : Point) (k : ℕ) → Going m s t l k → k ≤ 147457
-  going-few l k g =
-      most-steps k (mag m) (spread s t) 147456 (2 ^ 137) (lt-of-lt-of-le (pow-pos 137) (g .aim .from)) (g .aim .from)
-      (twice (spread s t) (18 * unity) (g .start .near)) (bounded l k g)
-    where
-      twice : (a b : ℕ) → a ≤ b → 2 * a ≤ 2 * b
-      twice a b h = omega arith
+  going-few l k g = few-steps k (mag m) (spread s t) (g .aim .from) (g .start .near) (bounded l k g)

@@ -4,25 +4,25 @@
 use mathlib.Core.Path.{_≡_, sym}
 use mathlib.Core.Logic.{_⊎_, inl, inr}
 use mathlib.Core.Bool.{_&&_}
-use Prim.Native.Nat.{ℕ, _+_, _*_, _^_, _≤_, _<_}
+use Prim.Native.Nat.{ℕ, _+_, _*_, _≤_, zero-le}
+use native.Mathlib.Nat.{lt-of-lt-of-le}
 use native.Mathlib.Omega.{arith}
 use lib.Dec.{T, lit≤}
 use lib.Pow.{pow-pos}
 use lib.Ieee.Bits.{is-true}
-use lib.Ieee.{Float, binary32, le}
+use lib.Ieee.{Float, binary32}
 use lib.Ieee.Fits.{and-i}
 use Rattle.numbers.specs.Door.{permits}
 use Rattle.numbers.specs.Limits.{maxMove, footLimit}
-use Rattle.numbers.specs.declared.door.Limit.{Limit}
-use Rattle.units.specs.Units.{Units, unity, hi, lo}
+use Rattle.units.specs.Units.{unity, hi, lo}
 use Rattle.units.proofs.Values.{one-side}
-use Rattle.units.proofs.Order.{le-part}
 use Rattle.units.proofs.Held.{Single}
-use Rattle.units.proofs.Door.{Ends}
+use Rattle.units.proofs.Door.{permits-part, permits-above}
 use Rattle.units.proofs.Table.{foot-ends, max-move-ends}
 use Rattle.legs.specs.Legs.{permittedPoint}
 use Rattle.legs.specs.declared.Point.{Point}
 use Rattle.moves.specs.Refusals.{moveRefusal}
+use Rattle.moves.proofs.Refusals.{point-permitted}
 use Rattle.moves.proofs.OnePass.{move-taken}
 use Rattle.moves.specs.Distance.{Each}
 use Rattle.walks.specs.Walk.{pointAfter}
@@ -54,16 +54,10 @@ four s t l w p q i =
     )
 
 -- ---- the door's tests, from units
-permits-units : (l : Limit) (p n q r : ℕ) → Ends l p n q r → (x : Float) → Units x → p + lo x ≤ n + hi x → hi x + r ≤ lo x + q
-    → T (permits l x)
-permits-units l p n q r e x u a b =
-    and-i (le (l .from) x) (le x (l .to)) (le-part binary32 (l .from) x p n (hi x) (lo x) (e .from) u .1 a)
-    (le-part binary32 x (l .to) (hi x) (lo x) q r u (e .to) .1 b)
-
 coordinate : (s t l : Float) → Single l → Parts (3 * unity) s → Parts (3 * unity) t → Inside s t l → T (permits footLimit l)
 coordinate s t l w p q i =
     let f = four s t l w p q i in
-    permits-units footLimit 0 (4 * unity) (4 * unity) 0 foot-ends l (w .ok) (up (f .0)) (down (f .1))
+    permits-part footLimit 0 (4 * unity) (4 * unity) 0 foot-ends l (hi l) (lo l) (w .ok) (up (f .0)) (down (f .1))
   where
     up : {a b : ℕ} → a ≤ b → 0 + a ≤ b
     up {a} {b} h = omega arith
@@ -73,13 +67,12 @@ coordinate s t l w p q i =
 
 permitted-point : (s t l : Point) → Each Single l → Each (Parts (3 * unity)) s → Each (Parts (3 * unity)) t → Between s t l
     → T (permittedPoint footLimit l)
-unfolding permittedPoint
 permitted-point s t l w p q b =
-    and-i (permits footLimit (l .x) && permits footLimit (l .y)) (permits footLimit (l .z))
-    (and-i (permits footLimit (l .x)) (permits footLimit (l .y))
-    (coordinate (s .x) (t .x) (l .x) (w .0) (p .0) (q .0) (b .x))
-    (coordinate (s .y) (t .y) (l .y) (w .1) (p .1) (q .1) (b .y)))
-    (coordinate (s .z) (t .z) (l .z) (w .2) (p .2) (q .2) (b .z))
+    point-permitted footLimit l (
+      coordinate (s .x) (t .x) (l .x) (w .0) (p .0) (q .0) (b .x),
+      coordinate (s .y) (t .y) (l .y) (w .1) (p .1) (q .1) (b .y),
+      coordinate (s .z) (t .z) (l .z) (w .2) (p .2) (q .2) (b .z),
+    )
 
 module _ (m : Float) (s t : Point) (r : Reach m s t) (fm : Fit m) (fs : Each Fit s) (ft : Each Fit t) where
   aim : Aim m t
@@ -90,22 +83,7 @@ module _ (m : Float) (s t : Point) (r : Reach m s t) (fm : Fit m) (fs : Each Fit
 
   permitted-move : T (permits maxMove m)
   permitted-move =
-      let u = move-single m s t r fm fs ft in
-      permits-units maxMove 0 0 unity 0 max-move-ends m (u .ok)
-      (level (one-side binary32 m (hi m) (lo m) (u .ok)) (r .from)) (least (r .to))
-    where
-      level : (hi m ≡ 0) ⊎ (lo m ≡ 0) → 2 ^ 137 ≤ hi m → 0 + lo m ≤ 0 + hi m
-      level = above (hi m) (lo m) (2 ^ 137) (pow-pos 137)
-        where
-          above : (a b k : ℕ) → 0 < k → (a ≡ 0) ⊎ (b ≡ 0) → k ≤ a → 0 + b ≤ 0 + a
-          above a b k p (inl e) h = omega arith
-          above a b k p (inr e) h = omega arith
-
-      least : hi m ≤ unity → hi m + 0 ≤ lo m + unity
-      least = below (hi m) (lo m) unity
-        where
-          below : (a b u : ℕ) → a ≤ u → a + 0 ≤ b + u
-          below a b u h = omega arith
+      permits-above maxMove 0 unity max-move-ends m (move-single m s t r fm fs ft) (lt-of-lt-of-le (pow-pos 137) (r .from)) zero-le (r .to)
 
   pub unrefused : (k : ℕ) → moveRefusal (pointAfter m s t k) t m ≡ 0
   unrefused k =

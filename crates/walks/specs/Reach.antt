@@ -1,6 +1,5 @@
--- Not document 01's table but what ours asks behind the door, so that a walk ends: finite numbers, coordinates to 3 m either way, a max
--- move
--- from 1/4096 m to 1 m. It is wider than the table, to which the entries keep.
+-- What the walks behind the door ask for, so that they end: finite numbers, coordinates to 3 m either way, a max move from 1/4096 m to 1 m.
+-- It is exactly what the door lets in, said in units; both ways are proved (proofs/Door).
 use Prim.Native.Nat.{ℕ, _*_, _^_, _≤_}
 use lib.Dec.{T}
 use lib.Ieee.{Float}

@@ -1,0 +1,113 @@
+-- What a listing's version says of its lines: with more digits than it allows a count is no line of it, without a version nothing but a
+-- header is a line; 147457 and 99999 under both versions, by computation.
+use mathlib.Core.Path.{_≡_, refl, sym, ap, _∙_, subst}
+use mathlib.Core.List.{List, [], _∷_}
+use Prim.Native.Nat.{ℕ}
+use native.Mathlib.Omega.{arith}
+use lib.ListN.{length}
+use borrow.Author.Tests.{ne-eqb}
+use Rattle.lines.specs.declared.listed.Line.{Line}
+use Rattle.lines.specs.declared.listed.Line.the-variants.{Header, Move, Arrived, Refused}
+use Rattle.lines.specs.declared.listed.Found.{Found}
+use Rattle.lines.specs.declared.listed.Found.the-variants.{Known, NoLine}
+use Rattle.lines.specs.Digits.{digit, numeral, hex, decimal, decimalWithin, valueOf, push, pushAll, countOf, hexOf}
+use Rattle.lines.specs.Fields.{parted, AreBits}
+use Rattle.lines.specs.Parts.{tabbed, tabbeds, allGood, bitsOf, shortOf}
+use Rattle.lines.specs.Lines.{body, Digited, Listable, countDigits}
+use Rattle.lines.specs.Reading.{moveOf, lineOf}
+use Rattle.lines.proofs.Decimal.{length-positive}
+use Rattle.lines.proofs.Listings.{line-back, line-exact}
+
+-- ---- no other version is one
+pub no-other : (v : ℕ) → (v ≡ 1 → ⊥) → (v ≡ 2 → ⊥) → countDigits v ≡ 0
+unfolding countDigits
+no-other v not-one not-two = rw (ne-eqb v 1 not-one, ne-eqb v 2 not-two)
+
+pub only-a-header : (s : List ℕ) (line : Line) → lineOf 0 s ≡ Known line → (v : ℕ) × (line ≡ Header v)
+unfolding Listable
+only-a-header s line e = by-kind line (line-exact 0 s line e .listable)
+  where
+    none : {A : Type 0} (n : ℕ) → Digited 0 n → A
+    none n d = absurd (omega (arith, length-positive n, d .0))
+
+    by-kind : (l : Line) → Listable 0 l → (v : ℕ) × (l ≡ Header v)
+    by-kind (Header v) d = (v, refl)
+    by-kind (Move m) d = none (m .count) (d .0)
+    by-kind (Arrived n) d = none n d
+    by-kind (Refused n) d = none n d
+
+-- ---- a line whose count has too many digits is not found
+same-line : (a b : Line) → Known a ≡ Known b → a ≡ b
+same-line a b e = cc
+
+pub too-many-digits : (limit : ℕ) (line : Line) → Listable 9 line → (Listable limit line → ⊥) → lineOf limit (body line) ≡ NoLine
+unfolding Listable
+too-many-digits limit line good many = by-found (lineOf limit (body line)) refl
+  where
+    wider : (l : Line) → Listable limit l → Listable 9 l
+    wider (Header v) d = d
+    wider (Move m) d = ((d .0 .1, d .0 .1), d .1)
+    wider (Arrived n) d = (d .1, d .1)
+    wider (Refused n) d = (d .1, d .1)
+
+    by-found : (f : Found) → lineOf limit (body line) ≡ f → lineOf limit (body line) ≡ NoLine
+    by-found NoLine e = e
+    by-found (Known l) e =
+        let was = line-exact limit (body line) l e in
+        let is : line ≡ l =
+        same-line line l (sym (line-back 9 line good) ∙ ap (lineOf 9) (was .bytes) ∙ line-back 9 l (wider l (was .listable))) in
+        absurd (many (subst (Listable limit) (sym is) (was .listable)))
+
+-- request K9: "a six-digit count under header 1 is no listing line"
+module _ (n : ℕ) (six : length (decimal n) ≡ 6) where
+  nine : Digited 9 n
+  nine = (omega (arith, six), omega (arith, six))
+
+  pub arrived-not-in-1 : lineOf (countDigits 1) (body (Arrived n)) ≡ NoLine
+  unfolding countDigits Listable
+  arrived-not-in-1 = too-many-digits 5 (Arrived n) nine (λ d. omega (arith, six, d .0))
+
+  pub moved-not-in-1 : (x y z : ℕ) → AreBits (x ∷ y ∷ z ∷ [])
+      → lineOf (countDigits 1) (body (Move (record { count = n; x = x; y = y; z = z }))) ≡ NoLine
+  unfolding countDigits Listable
+  moved-not-in-1 x y z bits =
+      too-many-digits 5 (Move (record { count = n; x = x; y = y; z = z })) (nine, bits) (λ d. omega (arith, six, d .0 .0))
+
+-- ---- by computation: six digits under version 2 and not under version 1, five under both
+abbrev far : Line
+far = Arrived 147457
+
+abbrev near : Line
+near = Arrived 99999
+
+-- A, tab, 147457
+pub far-bytes : body far ≡ 65 ∷ 9 ∷ 49 ∷ 52 ∷ 55 ∷ 52 ∷ 53 ∷ 55 ∷ []
+unfolding body parted decimal decimalWithin digit
+far-bytes = refl
+
+pub far-read : lineOf (countDigits 2) (body far) ≡ Known far
+unfolding countDigits lineOf shortOf countOf pushAll push valueOf body parted decimal decimalWithin digit
+far-read = refl
+
+pub far-not-in-1 : lineOf (countDigits 1) (body far) ≡ NoLine
+unfolding countDigits lineOf shortOf countOf pushAll push valueOf body parted decimal decimalWithin digit
+far-not-in-1 = refl
+
+pub near-in-both : (lineOf (countDigits 2) (body near) ≡ Known near) × (lineOf (countDigits 1) (body near) ≡ Known near)
+unfolding countDigits lineOf shortOf countOf pushAll push valueOf body parted decimal decimalWithin digit
+near-in-both = (refl, refl)
+
+pub none-in-3 : lineOf (countDigits 3) (body (Arrived 1)) ≡ NoLine
+unfolding countDigits lineOf shortOf countOf pushAll push valueOf body parted decimal decimalWithin digit
+none-in-3 = refl
+
+-- the line of a step: M, tab, its number, and 3, -3, -0 as floats
+abbrev far-step : ℕ → Line
+far-step k = Move (record { count = k; x = 0x4040_0000; y = 0xc040_0000; z = 0x8000_0000 })
+
+pub steps-read : (lineOf (countDigits 2) (body (far-step 147457)) ≡ Known (far-step 147457))
+    × (lineOf (countDigits 1) (body (far-step 147457)) ≡ NoLine)
+    × (lineOf (countDigits 1) (body (far-step 99999)) ≡ Known (far-step 99999))
+unfolding countDigits lineOf moveOf tabbeds tabbed allGood bitsOf hexOf countOf pushAll push valueOf body parted hex numeral decimal
+    decimalWithin digit
+steps-read = (refl, refl, refl)
