@@ -137,7 +137,7 @@ module _ (r : Rest) (going : r .done ≡ false) where
 -- the number of a step that follows is a u32 (of six digits: proofs/ReadBack)
 pub made-fits : (l t : Point) (k : ℕ) → movesOn l t k ≡ true → k + 1 < 4294967296
 unfolding movesOn mostSteps
-made-fits l t k e = let h : k < 147457 = ltb-true k 147457 (is-fit (same l t) (ltb k 147457) e) in omega arith
+made-fits l t k e = let h : k < mostSteps = ltb-true k mostSteps (is-fit (same l t) (ltb k mostSteps) e) in omega arith
 
 pub fewer-after : (r q : Rest) → r .done ≡ false → q ≡ afterOf r → linesLeft q < linesLeft r
 fewer-after r q going is = subst (λ (p : Rest). linesLeft p < linesLeft r) (sym is) (fewer r going)
