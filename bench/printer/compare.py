@@ -1,6 +1,9 @@
 #!/usr/bin/env python3
-"""compare.py OUT RECORDS MEBIBYTES: what `bench/run printer` measures."""
-import os, random, struct, subprocess, sys, time
+"""compare.py OUT RECORDS MEBIBYTES: what `bench/run printer` measures. On x86-64 alone: elsewhere the printer runs emulated."""
+import os, platform, random, struct, subprocess, sys, time
+
+if platform.machine() != "x86_64":
+    sys.exit("bench/run printer: the proved printer is a program for x86-64; emulated it is not worth timing")
 
 out, records, mebibytes = sys.argv[1], int(sys.argv[2]), int(sys.argv[3])
 OURS, RUST = ["target/bin/hopper_walk"], [os.path.join(out, "printer")]

@@ -1,7 +1,7 @@
 -- What a listing's version says of its lines: with more digits than it allows a count is no line of it, without a version nothing but a
 -- header is a line; 147457 and 99999 under both versions, by computation.
 use mathlib.Core.Path.{_≡_, refl, sym, ap, _∙_, subst}
-use mathlib.Core.List.{List, [], _∷_}
+use mathlib.Core.List.{List, [], _∷_, _++_}
 use Prim.Native.Nat.{ℕ}
 use native.Mathlib.Omega.{arith}
 use lib.ListN.{length}
@@ -73,29 +73,36 @@ module _ (n : ℕ) (six : length (decimal n) ≡ 6) where
   moved-not-in-1 x y z bits =
       too-many-digits 5 (Move (record { count = n; x = x; y = y; z = z })) (nine, bits) (λ d. omega (arith, six, d .0 .0))
 
--- ---- by computation: six digits under version 2 and not under version 1, five under both
-abbrev far : Line
-far = Arrived 147457
+-- ---- by computation: six digits under version 2 and not under version 1, five under both. The bytes are computed once, then read
+far-digits : decimal 147457 ≡ 49 ∷ 52 ∷ 55 ∷ 52 ∷ 53 ∷ 55 ∷ []
+unfolding decimal decimalWithin digit
+far-digits = refl
 
-abbrev near : Line
-near = Arrived 99999
+near-digits : decimal 99999 ≡ 57 ∷ 57 ∷ 57 ∷ 57 ∷ 57 ∷ []
+unfolding decimal decimalWithin digit
+near-digits = refl
 
--- A, tab, 147457
-pub far-bytes : body far ≡ 65 ∷ 9 ∷ 49 ∷ 52 ∷ 55 ∷ 52 ∷ 53 ∷ 55 ∷ []
-unfolding body parted decimal decimalWithin digit
-far-bytes = refl
+-- A, tab, 147457; A, tab, 99999
+pub far-bytes : body (Arrived 147457) ≡ 65 ∷ 9 ∷ 49 ∷ 52 ∷ 55 ∷ 52 ∷ 53 ∷ 55 ∷ []
+unfolding body parted
+far-bytes = ap (λ (d : List ℕ). 65 ∷ 9 ∷ d) far-digits
 
-pub far-read : lineOf (countDigits 2) (body far) ≡ Known far
-unfolding countDigits lineOf shortOf countOf pushAll push valueOf body parted decimal decimalWithin digit
-far-read = refl
+near-bytes : body (Arrived 99999) ≡ 65 ∷ 9 ∷ 57 ∷ 57 ∷ 57 ∷ 57 ∷ 57 ∷ []
+unfolding body parted
+near-bytes = ap (λ (d : List ℕ). 65 ∷ 9 ∷ d) near-digits
 
-pub far-not-in-1 : lineOf (countDigits 1) (body far) ≡ NoLine
-unfolding countDigits lineOf shortOf countOf pushAll push valueOf body parted decimal decimalWithin digit
-far-not-in-1 = refl
+pub far-read : lineOf (countDigits 2) (body (Arrived 147457)) ≡ Known (Arrived 147457)
+unfolding countDigits lineOf shortOf countOf pushAll push valueOf
+far-read = ap (lineOf (countDigits 2)) far-bytes ∙ refl
 
-pub near-in-both : (lineOf (countDigits 2) (body near) ≡ Known near) × (lineOf (countDigits 1) (body near) ≡ Known near)
-unfolding countDigits lineOf shortOf countOf pushAll push valueOf body parted decimal decimalWithin digit
-near-in-both = (refl, refl)
+pub far-not-in-1 : lineOf (countDigits 1) (body (Arrived 147457)) ≡ NoLine
+unfolding countDigits lineOf shortOf countOf pushAll push valueOf
+far-not-in-1 = ap (lineOf (countDigits 1)) far-bytes ∙ refl
+
+pub near-in-both : (lineOf (countDigits 2) (body (Arrived 99999)) ≡ Known (Arrived 99999))
+    × (lineOf (countDigits 1) (body (Arrived 99999)) ≡ Known (Arrived 99999))
+unfolding countDigits lineOf shortOf countOf pushAll push valueOf
+near-in-both = (ap (lineOf (countDigits 2)) near-bytes ∙ refl, ap (lineOf (countDigits 1)) near-bytes ∙ refl)
 
 pub none-in-3 : lineOf (countDigits 3) (body (Arrived 1)) ≡ NoLine
 unfolding countDigits lineOf shortOf countOf pushAll push valueOf body parted decimal decimalWithin digit
@@ -105,9 +112,19 @@ none-in-3 = refl
 abbrev far-step : ℕ → Line
 far-step k = Move (record { count = k; x = 0x4040_0000; y = 0xc040_0000; z = 0x8000_0000 })
 
+abbrev step-text : List ℕ → List ℕ
+step-text digits = 77 ∷ 9 ∷ (digits ++ (9 ∷ (hex 0x4040_0000 ++ (9 ∷ (hex 0xc040_0000 ++ (9 ∷ hex 0x8000_0000))))))
+
+step-bytes : (k : ℕ) (d : List ℕ) → decimal k ≡ d → body (far-step k) ≡ step-text d
+unfolding body parted
+step-bytes k d e = ap step-text e
+
 pub steps-read : (lineOf (countDigits 2) (body (far-step 147457)) ≡ Known (far-step 147457))
     × (lineOf (countDigits 1) (body (far-step 147457)) ≡ NoLine)
     × (lineOf (countDigits 1) (body (far-step 99999)) ≡ Known (far-step 99999))
-unfolding countDigits lineOf moveOf tabbeds tabbed allGood bitsOf hexOf countOf pushAll push valueOf body parted hex numeral decimal
-    decimalWithin digit
-steps-read = (refl, refl, refl)
+unfolding countDigits lineOf moveOf tabbeds tabbed allGood bitsOf hexOf countOf pushAll push valueOf hex numeral digit
+steps-read = (
+  ap (lineOf (countDigits 2)) (step-bytes 147457 _ far-digits) ∙ refl,
+  ap (lineOf (countDigits 1)) (step-bytes 147457 _ far-digits) ∙ refl,
+  ap (lineOf (countDigits 1)) (step-bytes 99999 _ near-digits) ∙ refl,
+)

@@ -46,15 +46,15 @@ module _ {Place : Type 0} (areFinite arePermitted : Place → Bool) (row : Limit
 
 -- ---- a test of a point is its three coordinates'
 module _ (test : Float → Bool) (p : Point) where
-  abbrev Each-passes : Type 0
-  Each-passes = Each (λ x. T (test x)) p
+  abbrev EachPasses : Type 0
+  EachPasses = Each (λ x. T (test x)) p
 
-  three : T (test (p .x) && test (p .y) && test (p .z)) → Each-passes
+  three : T (test (p .x) && test (p .y) && test (p .z)) → EachPasses
   three h =
       let xy = and-l (test (p .x) && test (p .y)) (test (p .z)) h in
       (and-l (test (p .x)) (test (p .y)) xy, and-r (test (p .x)) (test (p .y)) xy, and-r (test (p .x) && test (p .y)) (test (p .z)) h)
 
-  of-three : Each-passes → T (test (p .x) && test (p .y) && test (p .z))
+  of-three : EachPasses → T (test (p .x) && test (p .y) && test (p .z))
   of-three e = and-i (test (p .x) && test (p .y)) (test (p .z)) (and-i (test (p .x)) (test (p .y)) (e .0) (e .1)) (e .2)
 
 pub each-finite : (p : Point) → T (finitePoint p) → Each (λ x. T (finite x)) p

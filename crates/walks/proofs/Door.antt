@@ -58,8 +58,9 @@ move-let : (m : Float) → Fit m → T (finite m) → 2 ^ 137 ≤ hi m → hi m 
 move-let m F f from to =
     permits-above walkMove (2 ^ 137) unity walk-move-ends m (finite-single m f F) (lt-of-lt-of-le (pow-pos 137) from) from to
 
-both : (a b c : Bool) → T a → T b → T c → (a && b && c) ≡ true
-both a b c p q r = is-true (a && b && c) (and-i (a && b) c (and-i a b p q) r)
+-- three tests that hold, as the door joins them
+pub all-three : (a b c : Bool) → T a → T b → T c → (a && b && c) ≡ true
+all-three a b c p q r = is-true (a && b && c) (and-i (a && b) c (and-i a b p q) r)
 
 -- ---- a point
 module _ (m : Float) (s t : Point) (Fm : Fit m) (Fs : Each Fit s) (Ft : Each Fit t) where
@@ -73,7 +74,7 @@ module _ (m : Float) (s t : Point) (Fm : Fit m) (Fs : Each Fit s) (Ft : Each Fit
   pub within-reach : Reach m s t → walkRefusal m s t ≡ 0
   within-reach r =
       sym (walk-taken m s t
-      (both (permittedPoint walkFoot s) (permittedPoint walkFoot t) (permits walkMove m)
+      (all-three (permittedPoint walkFoot s) (permittedPoint walkFoot t) (permits walkMove m)
       (point-let s Fs (r .start)) (point-let t Ft (r .target)) (move-let m Fm (r .move) (r .from) (r .to))))
 
 -- ---- six feet
@@ -94,7 +95,7 @@ module _ (m : Float) (s t : Feet) (Fm : Fit m) (Fs : (l : Leg) → Each Fit (foo
   feet-within-reach r =
       let one = r leftFront in
       sym (walk-feet-taken m s t
-      (both (permittedFeet walkFoot s) (permittedFeet walkFoot t) (permits walkMove m)
+      (all-three (permittedFeet walkFoot s) (permittedFeet walkFoot t) (permits walkMove m)
       (every-of-each (λ l. permittedPoint walkFoot (foot s l)) (λ l. point-let (foot s l) (Fs l) (r l .start)))
       (every-of-each (λ l. permittedPoint walkFoot (foot t l)) (λ l. point-let (foot t l) (Ft l) (r l .target)))
       (move-let m Fm (one .move) (one .from) (one .to))))

@@ -3,15 +3,12 @@
 -- (That the step then hands the root no more than the root's limit, `moves` shows of all that it takes.)
 use mathlib.Core.Path.{_≡_, sym}
 use mathlib.Core.Logic.{_⊎_, inl, inr}
-use mathlib.Core.Bool.{_&&_}
 use Prim.Native.Nat.{ℕ, _+_, _*_, _≤_, zero-le}
 use native.Mathlib.Nat.{lt-of-lt-of-le}
 use native.Mathlib.Omega.{arith}
 use lib.Dec.{T, lit≤}
 use lib.Pow.{pow-pos}
-use lib.Ieee.Bits.{is-true}
 use lib.Ieee.{Float, binary32}
-use lib.Ieee.Fits.{and-i}
 use Rattle.numbers.specs.Door.{permits}
 use Rattle.numbers.specs.Limits.{maxMove, footLimit}
 use Rattle.units.specs.Units.{unity, hi, lo}
@@ -30,6 +27,7 @@ use Rattle.walks.specs.Reach.{Reach}
 use Rattle.walks.proofs.Coordinate.{δ}
 use Rattle.walks.proofs.Keeps.{Inside, at-end}
 use Rattle.walks.proofs.Aim.{Fit, Parts, Aim, OnWay}
+use Rattle.walks.proofs.Door.{all-three}
 use Rattle.walks.proofs.Given.{aimed, set-out, all-parts, move-single}
 use Rattle.walks.proofs.Steps.{Between}
 use Rattle.walks.proofs.Trail.{on-way, between}
@@ -92,9 +90,6 @@ module _ (m : Float) (s t : Point) (r : Reach m s t) (fm : Fit m) (fs : Each Fit
       let q = all-parts t (r .target) in
       let there : Between s t t = record { x = at-end (s .x) (t .x); y = at-end (s .y) (t .y); z = at-end (s .z) (t .z) } in
       sym (move-taken l t m
-      (is-true (permittedPoint footLimit l && permittedPoint footLimit t && permits maxMove m)
-      (and-i (permittedPoint footLimit l && permittedPoint footLimit t) (permits maxMove m)
-      (and-i (permittedPoint footLimit l) (permittedPoint footLimit t)
+      (all-three (permittedPoint footLimit l) (permittedPoint footLimit t) (permits maxMove m)
       (permitted-point s t l (on-way m s t aim start k .point) p q (between m s t aim start k))
-      (permitted-point s t t (aim .target) p q there))
-      permitted-move)))
+      (permitted-point s t t (aim .target) p q there) permitted-move))
