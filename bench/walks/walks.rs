@@ -1,6 +1,8 @@
-// Walks of the proved library, checked independently: each step by the plain Rust reading, arrival and leastness by going
-// the whole way, the bound count * m <= 2S + m in exact whole numbers of 2^-149 m. Random walks and adversarial ones.
-// Usage: walks [COUNT]. The last line has the walks tried and the failures.
+// Walks of the proved library, checked independently: each step of the library by the plain Rust reading, arrival and leastness
+// by going the whole way and two steps on, the bound count * m <= 2S + m in exact whole numbers of 2^-149 m. And at every step
+// the three clauses of request K14, by the order of the floats where that tells, else in whole numbers: no coordinate leaves the
+// interval from its start to its target by more than 2^-18 m, none comes farther from its target, and one that began at its
+// target is there. Random walks and adversarial ones. Usage: walks [COUNT]. The last line has the walks tried and the failures.
 #[path = "../rust/reference.rs"]
 mod reference;
 use reference::*;
@@ -8,6 +10,8 @@ use reference::*;
 extern "C" {
     fn probe_walk(s: *const f32, n: usize) -> u64;
     fn probe_walk_feet(s: *const f32, n: usize) -> u64;
+    fn probe_move(s: *const f32, n: usize, out: *mut f32, m: usize) -> u32;
+    fn probe_move_feet(s: *const f32, n: usize, out: *mut f32, m: usize) -> u32;
 }
 
 /// A whole number below 2^256, lowest word first.
@@ -21,11 +25,17 @@ impl Whole {
         let b = x.to_bits() & 0x7fff_ffff;
         let (e, t) = (b >> 23, (b & 0x7f_ffff) as u64);
         let (m, shift) = if e == 0 { (t, 0) } else { (t + 0x80_0000, e - 1) };
-        let mut w = Whole([m, 0, 0, 0]);
-        for _ in 0..shift {
-            w = w.add(w);
+        Whole::shifted(m, shift)
+    }
+    /// m * 2^shift, below 2^256.
+    fn shifted(m: u64, shift: u32) -> Whole {
+        let (word, wide) = ((shift / 64) as usize, (m as u128) << (shift % 64));
+        let mut r = [0; 4];
+        r[word] = wide as u64;
+        if word < 3 {
+            r[word + 1] = (wide >> 64) as u64;
         }
-        w
+        Whole(r)
     }
     fn add(self, o: Whole) -> Whole {
         let mut r = [0; 4];
@@ -61,6 +71,9 @@ impl Whole {
         }
         assert_eq!(carry, 0);
         Whole(r)
+    }
+    fn log2(self) -> f64 {
+        (0..4).map(|k| self.0[k] as f64 * 2f64.powi(64 * k as i32)).sum::<f64>().log2()
     }
     /// How far apart two finite f32 are.
     fn apart(a: f32, b: f32) -> Whole {
@@ -104,16 +117,67 @@ impl Random {
     }
 }
 
-fn check(m: f32, s: &Point, t: &Point, count: u64) -> Result<(), String> {
-    let mut at = *s;
-    for k in 0..count {
-        if at == *t {
-            return Err(format!("it had arrived after {k}"));
+/// What the steps of all walks have shown: how often a coordinate was outside the interval from its start to its target, and
+/// by how much at most.
+struct Swings {
+    outside: u64,
+    most: Whole,
+    of: String,
+}
+
+impl Swings {
+    /// One coordinate: it began at s, has its target at t, and a step took it from l to p.
+    fn coordinate(&mut self, s: f32, t: f32, l: f32, p: f32) -> Result<(), &'static str> {
+        if s == t && p != t {
+            return Err("a coordinate that began at its target has left it");
         }
-        at = towards(&at, t, m).0;
+        let (low, high) = (s.min(t), s.max(t));
+        if p < low || p > high {
+            self.outside += 1;
+            let by = Whole::apart(p, if p < low { low } else { high });
+            if self.most.less(by) {
+                self.most = by;
+                self.of = format!("from {:08x} to {:08x}: at {:08x}", s.to_bits(), t.to_bits(), p.to_bits());
+            }
+            if Whole::shifted(1, 131).less(by) {
+                return Err("a coordinate is outside its interval by more than 2^-18 m");
+            }
+        }
+        // between l and t it is no farther from t than l is
+        let nearer = (l <= p && p <= t) || (t <= p && p <= l);
+        if !nearer && Whole::apart(l, t).less(Whole::apart(p, t)) {
+            return Err("a coordinate has moved away from its target");
+        }
+        Ok(())
     }
-    if at != *t {
-        return Err("it has not arrived".to_string());
+    fn point(&mut self, s: &Point, t: &Point, l: &Point, p: &Point) -> Result<(), &'static str> {
+        self.coordinate(s.x, t.x, l.x, p.x)?;
+        self.coordinate(s.y, t.y, l.y, p.y)?;
+        self.coordinate(s.z, t.z, l.z, p.z)
+    }
+}
+
+/// The library's step, which is the reading's to the bit.
+fn step(l: &Point, t: &Point, m: f32) -> Result<Point, &'static str> {
+    let row = [l.x, l.y, l.z, t.x, t.y, t.z, m];
+    let mut out = [0.0; 3];
+    let n = unsafe { probe_move(row.as_ptr(), 7, out.as_mut_ptr(), 3) };
+    let (p, moved) = towards(l, t, m);
+    if n != if moved { 256 } else { 0 } || out.map(f32::to_bits) != [p.x, p.y, p.z].map(f32::to_bits) {
+        return Err("a step is not the reading's");
+    }
+    Ok(p)
+}
+
+fn check(m: f32, s: &Point, t: &Point, count: u64, swings: &mut Swings) -> Result<(), String> {
+    let mut at = *s;
+    for k in 0..count + 2 {
+        if (at == *t) != (k >= count) {
+            return Err(format!("after {k} steps it has {}arrived", if k < count { "" } else { "not " }));
+        }
+        let p = step(&at, t, m)?;
+        swings.point(s, t, &at, &p)?;
+        at = p;
     }
     let spread = Whole::apart(s.x, t.x).add(Whole::apart(s.y, t.y)).add(Whole::apart(s.z, t.z));
     let most = spread.add(spread).add(Whole::units(m));
@@ -123,28 +187,83 @@ fn check(m: f32, s: &Point, t: &Point, count: u64) -> Result<(), String> {
     Ok(())
 }
 
+/// Six feet, 36 coordinates and m: the count is the largest of the six, and the clauses hold of each foot on the way.
+fn check_six(six: &[f32], swings: &mut Swings) -> Result<(), String> {
+    let m = six[36];
+    let foot = |row: &[f32], l: usize| Point { x: row[3 * l], y: row[3 * l + 1], z: row[3 * l + 2] };
+    let mut largest = 0;
+    for l in 0..6 {
+        let (s, t) = (foot(six, l), foot(&six[18..], l));
+        let one = [s.x, s.y, s.z, t.x, t.y, t.z, m];
+        largest = largest.max(unsafe { probe_walk(one.as_ptr(), 7) });
+    }
+    if largest != unsafe { probe_walk_feet(six.as_ptr(), 37) } {
+        return Err("not the largest count".to_string());
+    }
+    let mut at = six.to_vec();
+    for k in 0..largest + 2 {
+        let mut out = [0.0; 18];
+        let n = unsafe { probe_move_feet(at.as_ptr(), 37, out.as_mut_ptr(), 18) };
+        if n != if k < largest { 256 } else { 0 } {
+            return Err(format!("after {k} steps the six answer {n}"));
+        }
+        for l in 0..6 {
+            swings.point(&foot(six, l), &foot(&six[18..], l), &foot(&at, l), &foot(&out, l))?;
+        }
+        at[..18].copy_from_slice(&out);
+    }
+    Ok(())
+}
+
 fn main() {
     let count: u64 = std::env::args().nth(1).and_then(|s| s.parse().ok()).unwrap_or(1_000_000);
     let mut r = Random(0x9e37_79b9_7f4a_7c15);
+    let mut swings = Swings { outside: 0, most: Whole::ZERO, of: String::new() };
     let (mut tried, mut failed, mut steps, mut longest) = (0u64, 0u64, 0u64, 0u64);
     assert!(Whole::ZERO.less(Whole::units(f32::from_bits(1))));
+    assert!(Whole::units(1.0) == Whole::shifted(1, 149) && Whole::units(-3.0) == Whole::shifted(3, 149));
     for i in 0..count {
         let m = if i % 64 == 0 { WALK_MOVE.0 } else { WALK_MOVE.0.powf(r.unit()).max(WALK_MOVE.0) };
-        let p = |r: &mut Random| match i % 4 {
-            0 => [r.between(-3.0, 3.0), r.between(-3.0, 3.0), r.between(-3.0, 3.0)],
+        let p = |r: &mut Random| match i % 8 {
+            0 | 4 => [r.between(-3.0, 3.0), r.between(-3.0, 3.0), r.between(-3.0, 3.0)],
             1 => [r.by_a_power(), r.by_a_power(), r.by_a_power()],
-            2 => [r.between(-3.0, 3.0), r.tiny().clamp(-3.0, 3.0), r.tiny().clamp(-3.0, 3.0)],
+            5 => [r.between(-1.0, 1.0), r.between(-0.5, 0.5), r.between(-0.5, 0.5)],
+            2 | 6 => [r.between(-3.0, 3.0), r.tiny().clamp(-3.0, 3.0), r.tiny().clamp(-3.0, 3.0)],
             _ => [r.between(-0.3, 0.3), r.between(-0.3, 0.3), r.between(-0.3, 0.3)],
         };
-        // the first goes from corner to corner by the least move
-        let (a, b) = if i == 0 { ([WALK_FOOT.0; 3], [WALK_FOOT.1; 3]) } else { (p(&mut r), p(&mut r)) };
+        // the first goes from corner to corner by the least move, the second passes its target by 2^-24 m
+        let (mut a, mut b) = match i {
+            0 => ([WALK_FOOT.0; 3], [WALK_FOOT.1; 3]),
+            1 => ([0xb300_0000, 0, 0].map(f32::from_bits), [0x3f00_0001, 0x3f40_0000, 0].map(f32::from_bits)),
+            // from half an ulp beyond zero to an odd number of ulps, so that the difference is a tie and rounded up
+            _ if i % 8 == 5 => {
+                let b = p(&mut r).map(|x| f32::from_bits(x.to_bits() | 1));
+                (b.map(|x| f32::from_bits(x.to_bits() & 0xff80_0000) * -(2f32.powi(-24))), b)
+            }
+            _ => (p(&mut r), p(&mut r)),
+        };
+        // one coordinate level, at any number or at a zero of either sign
+        if i % 8 == 7 {
+            let level = (i >> 3) as usize % 3;
+            (a[level], b[level]) = match (i >> 5) % 4 {
+                0 => (-0.0, -0.0),
+                1 => (-0.0, 0.0),
+                2 => (0.0, -0.0),
+                _ => (a[level], a[level]),
+            };
+        }
         let (s, t) = (Point { x: a[0], y: a[1], z: a[2] }, Point { x: b[0], y: b[1], z: b[2] });
-        // a quarter of the short walks: m just below the distance, so that the last step is a crumb
+        // m just below the distance, so that the last step is a crumb
         let d = distance(&s, &t);
-        let m = if i % 16 == 3 && d > 2.0 * WALK_MOVE.0 && d < 1.0 { f32::from_bits(d.to_bits() - 1 - (i >> 4) as u32 % 3) } else { m };
+        let crumb = (i % 16 == 3 || i % 4 == 1) && d > 2.0 * WALK_MOVE.0 && d < 1.0;
+        let m = match i {
+            1 => f32::from_bits(0x3f66_c15a),
+            _ if crumb => f32::from_bits(d.to_bits() - 1 - (i >> 4) as u32 % 3),
+            _ => m,
+        };
         let row = [a[0], a[1], a[2], b[0], b[1], b[2], m];
         let answer = unsafe { probe_walk(row.as_ptr(), 7) };
-        let outcome = if answer >> 32 != 0 { Err(format!("refusal {}", answer >> 32)) } else { check(m, &s, &t, answer) };
+        let outcome = if answer >> 32 != 0 { Err(format!("refusal {}", answer >> 32)) } else { check(m, &s, &t, answer, &mut swings) };
         if let Err(why) = outcome {
             failed += 1;
             if failed < 20 {
@@ -154,25 +273,18 @@ fn main() {
         tried += 1;
         steps += answer & 0xffff_ffff;
         longest = longest.max(answer & 0xffff_ffff);
-        // six feet: the largest of the six
         if i % 1000 == 0 {
-            let mut six = vec![];
-            for _ in 0..36 {
-                six.push(r.between(-3.0, 3.0));
-            }
+            let mut six: Vec<f32> = (0..36).map(|_| r.between(-3.0, 3.0)).collect();
             six.push(m);
-            let each = (0..6).map(|l| {
-                let one = [six[3 * l], six[3 * l + 1], six[3 * l + 2], six[18 + 3 * l], six[19 + 3 * l], six[20 + 3 * l], m];
-                unsafe { probe_walk(one.as_ptr(), 7) }
-            });
-            if each.max() != Some(unsafe { probe_walk_feet(six.as_ptr(), 37) }) {
+            if let Err(why) = check_six(&six, &mut swings) {
                 failed += 1;
-                println!("six feet: not the largest count");
+                println!("six feet: {why}");
             }
             tried += 1;
         }
     }
     println!("{steps} steps in all, the longest walk has {longest}");
+    println!("{} coordinates outside their interval, by 2^{:.2} m at most ({})", swings.outside, swings.most.log2() - 149.0, swings.of);
     println!("{tried} walks, {failed} failures");
     std::process::exit((failed != 0) as i32);
 }

@@ -77,7 +77,7 @@ three-le a b h k =
 fine : (k : ℕ) → k ≤ 2 ^ 165 → k < overflow binary32
 fine k h = lt-of-le-of-lt h (lit< tt)
 
-square-value : (t l : Float) → Units t → Units l → apart t l ≤ 18 * unity
+pub square-value : (t l : Float) → Units t → Units l → apart t l ≤ 18 * unity
     → HasValue (mul binary32 (sub binary32 t l) (sub binary32 t l)) false (sq (size t l)) unity
 square-value t l ut ul near =
     sq-value binary32 (sub binary32 t l) (diff (hi t + lo l) (lo t + hi l)) (diff (lo t + hi l) (hi t + lo l))

@@ -5,7 +5,7 @@ use lib.Ieee.{Float, le}
 use Rattle.numbers.specs.Told.{choose}
 use Rattle.legs.specs.declared.Point.{Point}
 use Rattle.moves.specs.Distance.{same, distance}
-use Rattle.moves.specs.Moving.{along, nearer, stepAt, moveTowards, hasMoved}
+use Rattle.moves.specs.Moving.{along, nearer, stepAt, moveTowards, pointOf, hasMoved}
 use Rattle.moves.specs.declared.MoveStep.the-variants.{Moved, Arrived}
 
 module _ (l t : Point) (m : Float) where
@@ -51,6 +51,20 @@ module _ (l t : Point) (m : Float) where
       by-test : (b : Bool) → choose b (Arrived t) (Moved (nearer (distance l t) l t m)) ≡ Arrived p → b ≡ true
       by-test true e = refl
       by-test false e = cc
+
+  -- what holds of the target, and of the point along the way where a step goes along, holds of the point after the step
+  pub after-step : (P : Point → Type 0) → P t → (le (distance l t) m ≡ false → P (along (distance l t) m l t))
+      → P (pointOf (moveTowards l t m))
+  unfolding moveTowards stepAt nearer pointOf
+  after-step P there on = by-place (same l t)
+    where
+      by-distance : (b : Bool) → le (distance l t) m ≡ b → P (choose b t (along (distance l t) m l t))
+      by-distance true e = there
+      by-distance false e = on e
+
+      by-place : (b : Bool) → P (pointOf (choose b (Arrived t) (Moved (choose (le (distance l t) m) t (along (distance l t) m l t)))))
+      by-place true = there
+      by-place false = by-distance (le (distance l t) m) refl
 
 pub goes-there : (d : Float) (l t : Point) (m : Float) → le d m ≡ true → nearer d l t m ≡ t
 unfolding nearer

@@ -77,19 +77,21 @@ module _ (m : Float) (l t : Point) (aim : Aim m t) (way : OnWay l t) (far : T (n
   pub near : (apart (t .x) (l .x) ≤ 18 * unity) × (apart (t .y) (l .y) ≤ 18 * unity) × (apart (t .z) (l .z) ≤ 18 * unity)
   near = third (apart (t .x) (l .x)) (apart (t .y) (l .y)) (apart (t .z) (l .z)) (18 * unity) (way .near)
 
+  pub near-target : Near l t
+  near-target = record {
+    from = (way .point .0 .ok, way .point .1 .ok, way .point .2 .ok);
+    to = (aim .target .0 .ok, aim .target .1 .ok, aim .target .2 .ok);
+    x = near .0;
+    y = near .1;
+    z = near .2;
+  }
+
   pub measured : Measured
   measured =
       let X = size (t .x) (l .x) in
       let Y = size (t .y) (l .y) in
       let Z = size (t .z) (l .z) in
-      let n : Near l t = record {
-        from = (way .point .0 .ok, way .point .1 .ok, way .point .2 .ok);
-        to = (aim .target .0 .ok, aim .target .1 .ok, aim .target .2 .ok);
-        x = near .0;
-        y = near .1;
-        z = near .2;
-      } in
-      let w : Rooted (distance l t) (all X Y Z) = distance-rooted l t n in
+      let w : Rooted (distance l t) (all X Y Z) = distance-rooted l t near-target in
       let MQ : mag m < w .q = not-le-values binary32 (distance l t) m (w .q) (mag m) (w .value) (aim .move) far in
       let D = dist-facts X Y Z (distance l t) w (le-trans (aim .from) (le-of-lt MQ)) in
       let k = under X Y Z (sq X) (sq Y) (sq Z) (both X Y) (all X Y Z) (w .q) unity unity-pos D in

@@ -7,6 +7,8 @@ pub mod Aim
 mod Fits
 mod Descent
 pub mod Keeps
+mod SquareRoots
+mod Components
 mod Passing
 pub mod Nearer
 pub mod Steps
@@ -18,6 +20,8 @@ pub mod Feet
 pub mod Table
 pub mod OneAnswer
 pub mod Trail
+pub mod Settled
+pub mod Swing
 pub mod Unrefused
 pub mod Ends
 pub mod Rounds

@@ -1,23 +1,21 @@
--- Two f32s that are close, in units: the larger is above the smaller by one part in 2 ^ 24 at least, and the difference of two that are
--- near each other is
--- an f32 itself. And a quotient by more, times less, is no more than what was divided.
-use mathlib.Core.Path.{_≡_, refl, sym, ap, ap₂, _∙_, subst}
+-- f32s beside each other, in units: the larger is above the smaller by one part in 2 ^ 24 at least. A quotient by more, times less, is no
+-- more than what was divided. And of all f32s none is nearer to a sum than the rounded one.
+use mathlib.Core.Path.{_≡_, refl, sym, ap, _∙_, subst}
 use mathlib.Core.Logic.{inl, inr}
 use Prim.Native.Nat.{ℕ, zero, suc, _+_, _-_, _*_, _/_, _^_, _≤_, _<_, zero-le}
-use native.Mathlib.Nat.{add-mul, mul-one, eq-zero-or-pos, eq-or-lt-of-le, lt-of-not-le, not-le-of-lt, le-trans, le-of-eq, lt-of-le-of-lt}
-use native.Mathlib.Nat.{lt-of-lt-of-le, mul-le-mul, mul-le-mul-right, mul-pos, mul-assoc}
+use native.Mathlib.Nat.{add-mul, eq-zero-or-pos, eq-or-lt-of-le, lt-of-not-le, not-le-of-lt, le-trans, le-of-eq, lt-of-le-of-lt}
+use native.Mathlib.Nat.{lt-of-lt-of-le, mul-le-mul, mul-le-mul-right, mul-pos, mul-assoc, le-of-mul-le-mul-right}
 use native.Mathlib.Nat.{pow-succ', le-div-iff-mul-le, lt-of-mul-lt-mul-right, mul-lt-mul-of-pos-right}
 use native.Mathlib.Omega.{arith}
-use lib.Dec.{lit<, lit≤}
+use lib.Dec.{lit<}
 use lib.Pow.{pow-add, pow-mono}
 use lib.Ieee.{binary32, size}
 use lib.Ieee.Digits.{size-lt, size-reaches}
 use lib.Ieee.Order.{drop}
-use lib.Ieee.Scale.{overflow}
 use Rattle.units.specs.Units.{unity, gap, rounded, Exact}
 use Rattle.units.proofs.Grid.{cell-near, grid-mono, grid-zero, grid-abs, grid-le}
-use Rattle.units.proofs.Held.{grid-exact}
 use Rattle.units.proofs.Digits.{Digits, multiple}
+use Rattle.units.proofs.Nearest.{rounded-nearest}
 use Rattle.units.proofs.Errors.{unity-pos}
 use Rattle.walks.proofs.Coordinate.{total}
 
@@ -193,7 +191,7 @@ module _ (D Q M : ℕ) (exact : Exact D) (dq : Digits Q) (dm : Digits M) (less :
     | inr h ↦ elim (eq-or-lt-of-le h) [ inl e ↦ in-large (le-of-eq (sym e)) | inr l ↦ in-small l ]
   ]
 
--- ---- the difference of two that are near each other is an f32
+-- ---- the rounded sum is the nearest f32
 gap-times : (a b p : ℕ) → gap (a * p) (b * p) ≡ gap a b * p
 gap-times a b p = elim (total b a) [ inl h ↦ above a b h | inr h ↦ flip (a * p) (b * p) ∙ above b a h ∙ ap (λ (g : ℕ). g * p) (flip b a) ]
   where
@@ -208,36 +206,8 @@ gap-times a b p = elim (total b a) [ inl h ↦ above a b h | inr h ↦ flip (a *
         let k : gap x y * p ≡ (x - y) * p = ap (λ (z : ℕ). z * p) g in
         omega arith
 
-pub exact-whole : (e : ℕ) → e < 2 ^ 24 → Exact e
-exact-whole e h = subst Exact (mul-one e) (grid-exact binary32 e 0 h (lt-of-le-of-lt (le-of-eq (mul-one e)) (lt-of-lt-of-le h (lit≤ tt))))
-
-pub close-exact : (w v : ℕ) → Digits w → Digits v → w ≤ 2 ^ 155 → 4 * gap w v < w → Exact (gap w v)
-close-exact w v dw dv top h = elim (total (2 ^ 24) w) [
-  | inr s ↦ exact-whole (gap w v) (quarter h s)
-  | inl big ↦ at (size w - 24) (placed w (le-trans (lit≤ tt) big)) big
-]
-  where
-    quarter : {e y : ℕ} → 4 * e < w → w ≤ y → e < y
-    quarter {e} {y} h s = omega arith
-
-    at : (k : ℕ) → Placed w k → 2 ^ 24 ≤ w → Exact (gap w v)
-    at zero p big = absurd (not-le-of-lt (p .high) big)
-    at (suc j) p big =
-        let e : 2 ^ suc j ≡ 2 * 2 ^ j = pow-succ' 2 j in
-        let n = multiple w j dw (low (2 ^ suc j) (2 ^ j) e (p .low)) in
-        let o = multiple v j dv (also (2 ^ suc j) (2 ^ j) e (p .low) h) in
-        let g : gap w v ≡ gap (n .0) (o .0) * 2 ^ j = ap₂ gap (n .1) (o .1) ∙ gap-times (n .0) (o .0) (2 ^ j) in
-        let l : gap (n .0) (o .0) < 2 ^ 24 =
-        lt-of-mul-lt-mul-right (2 ^ j) (lt-of-le-of-lt (le-of-eq (sym g)) (short (2 ^ suc j) (2 ^ j) e (p .high) h)) in
-        let f : gap (n .0) (o .0) * 2 ^ j < overflow binary32 =
-        lt-of-le-of-lt (le-of-eq (sym g)) (lt-of-lt-of-le (quarter h top) (lit≤ tt)) in
-        subst Exact (sym g) (grid-exact binary32 (gap (n .0) (o .0)) j l f)
-      where
-        low : (x y : ℕ) → x ≡ 2 * y → 8388608 * x ≤ w → 8388608 * y ≤ w
-        low x y e l = omega arith
-
-        also : (x y : ℕ) → x ≡ 2 * y → 8388608 * x ≤ w → 4 * gap w v < w → 8388608 * y ≤ v
-        also x y e l h = omega arith
-
-        short : (x y : ℕ) → x ≡ 2 * y → w < 16777216 * x → 4 * gap w v < w → gap w v < 16777216 * y
-        short x y e l h = omega arith
+pub sum-nearest : (x w : ℕ) → Digits w → gap (rounded x unity) x ≤ gap w x
+sum-nearest x w d =
+    le-of-mul-le-mul-right {m = gap (rounded x unity) x} {n = gap w x} {k = unity}
+    (subst (λ (g : ℕ). g ≤ gap w x * unity) (gap-times (rounded x unity) x unity)
+    (le-trans (rounded-nearest x unity w unity-pos d) (le-of-eq (gap-times w x unity)))) unity-pos

@@ -1,20 +1,32 @@
--- On parts: a coordinate passes its target by no more than it was away from it. Where the difference is an f32, the step does not pass
--- the target at all;
--- where it is not, the difference is at least a quarter of the target, and what rounding adds is far less.
-use mathlib.Core.Path.{_≡_, sym, ap, _∙_, subst}
+-- On parts: where a step that goes along takes a coordinate. A move of at most the exact difference does not pass the target. A longer one
+-- comes of a difference that was rounded up, and passes the target by twice that at most, since the target is an f32 and the sum is
+-- rounded to the nearest. So the coordinate comes no farther from its target, and passes it by 2 ^ -24 at most.
+use mathlib.Core.Path.{_≡_, refl, sym, ap, _∙_, subst}
 use mathlib.Core.Logic.{_⊎_, inl, inr}
-use Prim.Native.Nat.{ℕ, _+_, _-_, _*_, _^_, _≤_, _<_, zero-le}
-use native.Mathlib.Nat.{le-trans, le-of-eq, lt-of-le-of-lt, eq-or-lt-of-le}
+use Prim.Native.Nat.{ℕ, _+_, _-_, _*_, _≤_, _<_, zero-le}
+use native.Mathlib.Nat.{le-trans, le-of-eq, lt-of-le-of-lt, mul-pos, mul-comm, mul-le-mul, mul-le-mul-right}
+use native.Mathlib.Nat.{lt-of-lt-of-le, mul-lt-mul-of-pos-right, le-of-mul-le-mul-right}
 use native.Mathlib.Omega.{arith}
-use lib.Ieee.{binary32}
+use lib.Dec.{lit<}
+use lib.Ieee.{binary32, size}
 use Rattle.units.specs.Units.{unity, gap, rounded, Exact}
+use Rattle.units.proofs.Whole.{le-or-lt}
+use Rattle.units.proofs.Grid.{grid-mono, grid-abs}
 use Rattle.units.proofs.Add.{sum-mono}
-use Rattle.units.proofs.Errors.{Summed, summed, rounded-zero}
+use Rattle.units.proofs.Errors.{summed, rounded-zero, unity-pos}
 use Rattle.units.proofs.Digits.{Digits}
 use Rattle.moves.proofs.Squares.{diff}
-use Rattle.walks.proofs.Coordinate.{move, next, move-zero, diff-zero, total}
+use Rattle.walks.proofs.Coordinate.{δ, move, next, move-zero, diff-zero, total}
 use Rattle.walks.proofs.Keeps.{adv}
-use Rattle.walks.proofs.Neighbours.{back-at-most, close-exact, exact-whole}
+use Rattle.walks.proofs.Neighbours.{back-at-most, sum-nearest}
+
+-- 1 is an f32
+exact-one : Exact unity
+unfolding size
+exact-one = refl
+
+rest : (a b : ℕ) → b ≤ a → a - b + b ≡ a
+rest a b h = omega arith
 
 -- an f32 of p - n units is itself, rounded
 own : (p n : ℕ) → (p ≡ 0) ⊎ (n ≡ 0) → Exact p → Exact n → (rounded (p - n) unity ≡ p) × (rounded (n - p) unity ≡ n)
@@ -33,87 +45,19 @@ own p n (inr z) ep en = (ap (λ (w : ℕ). rounded w unity) (right p n z) ∙ ep
     right : (p n : ℕ) → n ≡ 0 → p - n ≡ p
     right p n z = omega arith
 
--- the difference E of a target pt - nt above a last point pl - nl is an f32, or it is large beside the target
-module _ (pt nt pl nl : ℕ) (top : pt + nt ≤ 2 ^ 155) (dt : Digits (pt + nt)) (dl : Digits (pl + nl)) (up : nt + pl ≤ pt + nl) where
+-- ---- it comes no farther, and it passes its target by 2 ^ -24 at most
+pub record Passed (pt nt pl nl Q M : ℕ) : Type 0 where
+  pub no-farther : gap (pt + next nt pt nl pl Q M) (nt + next pt nt pl nl Q M) ≤ gap (pt + nl) (nt + pl)
+  pub past-by : nt + next pt nt pl nl Q M ≤ pt + next nt pt nl pl Q M + δ
+
+-- the target pt - nt is no lower than the last point pl - nl; the difference is not above the distance Q, nor the max move M
+module _ (pt nt pl nl Q M : ℕ) (less : M < Q) (one : M ≤ unity) (ts : (pt ≡ 0) ⊎ (nt ≡ 0)) (ls : (pl ≡ 0) ⊎ (nl ≡ 0))
+    (ept : Exact pt) (ent : Exact nt) (epl : Exact pl) (enl : Exact nl) (ed : Exact (diff (pt + nl) (nt + pl)))
+    (short : diff (pt + nl) (nt + pl) ≤ Q) (dt : Digits (pt + nt)) (dq : Digits Q) (dm : Digits M) (up : nt + pl ≤ pt + nl) where
+  -- the difference, exact and rounded; the move to the target, and away from it; the new point
   abbrev E : ℕ
   E = pt + nl - (nt + pl)
 
-  same-side : gap (pt + nt) (pl + nl) ≡ E → Exact E ⊎ (pt + nt ≤ 4 * E)
-  same-side e = elim (total (pt + nt) (4 * E)) [
-    | inl h ↦ inr h
-    | inr h ↦ elim (eq-or-lt-of-le h) [
-      | inl g ↦ inr (le-of-eq (sym g))
-      | inr l ↦ inl (subst Exact e (close-exact (pt + nt) (pl + nl) dt dl top (subst (λ (g : ℕ). 4 * g < pt + nt) (sym e) l)))
-    ]
-  ]
-
-  exact-or-large : (pt ≡ 0) ⊎ (nt ≡ 0) → (pl ≡ 0) ⊎ (nl ≡ 0) → Exact E ⊎ (pt + nt ≤ 4 * E)
-  exact-or-large (inr x) (inr y) = same-side (level pt nt pl nl x y up)
-    where
-      level : (a b c d : ℕ) → b ≡ 0 → d ≡ 0 → b + c ≤ a + d → gap (a + b) (c + d) ≡ a + d - (b + c)
-      level a b c d x y h = omega arith
-  exact-or-large (inl x) (inl y) = same-side (level pt nt pl nl x y up)
-    where
-      level : (a b c d : ℕ) → a ≡ 0 → c ≡ 0 → b + c ≤ a + d → gap (a + b) (c + d) ≡ a + d - (b + c)
-      level a b c d x y h = omega arith
-  exact-or-large (inr x) (inl y) = inr (wide pt nt pl nl x y)
-    where
-      wide : (a b c d : ℕ) → b ≡ 0 → c ≡ 0 → a + b ≤ 4 * (a + d - (b + c))
-      wide a b c d x y = omega arith
-  exact-or-large (inl x) (inr y) = inr (none pt nt pl nl x y up)
-    where
-      none : (a b c d : ℕ) → a ≡ 0 → d ≡ 0 → b + c ≤ a + d → a + b ≤ 4 * (a + d - (b + c))
-      none a b c d x y h = omega arith
-
--- ---- the new point Np - Nn passes the target by the difference at most
--- A is what the point is before rounding, where it is not below zero; B where it is
-crude-above : (pt nt H e A Np : ℕ) → A + nt + e ≡ pt + H → 1024 * Np ≤ 1025 * A + 512 → 1024 * H ≤ 1025 * e + 512
-    → pt + nt ≤ 4 * e → 16777216 ≤ e → nt + Np ≤ pt + e
-crude-above pt nt H e A Np a p h w b = omega arith
-
-crude-below : (pt nt H e B Nn : ℕ) → B + pt + H ≡ nt + e → 1023 * B ≤ 1024 * Nn + 512 → 1024 * H ≤ 1025 * e + 512
-    → pt + nt ≤ 4 * e → 16777216 ≤ e → nt ≤ pt + Nn + e
-crude-below pt nt H e B Nn a p h w b = omega arith
-
-crude : (pt nt pl nl H K D e Np Nn : ℕ) → e + (nt + pl) ≡ pt + nl → K ≡ 0 → Summed Np (pl + H - (nl + K))
-    → Summed Nn (nl + K - (pl + H)) → Summed D e → H ≤ D
-    → pt + nt ≤ 4 * e → 16777216 ≤ e → nt + Np ≤ pt + Nn + e
-crude pt nt pl nl H K D e Np Nn x k p n d h w b =
-    let short : 1024 * H ≤ 1025 * e + 512 = through H D (1025 * e + 512) h (d .up) in
-    elim (total (nl + K) (pl + H)) [
-      | inl g ↦
-          let c : nt + Np ≤ pt + e = crude-above pt nt H e (pl + H - (nl + K)) Np (above pt nt pl nl H K e x k g) (p .up) short w b in
-          more c
-      | inr g ↦
-          let z : Np ≡ 0 = nothing Np (pl + H - (nl + K)) (gone (pl + H) (nl + K) g) (p .up) in
-          let c : nt ≤ pt + Nn + e = crude-below pt nt H e (nl + K - (pl + H)) Nn (below pt nt pl nl H K e x k g) (n .low) short w b in
-          none z c
-    ]
-  where
-    through : (a c y : ℕ) → a ≤ c → 1024 * c ≤ y → 1024 * a ≤ y
-    through a c y f g = omega arith
-
-    above : (pt nt pl nl H K e : ℕ) → e + (nt + pl) ≡ pt + nl → K ≡ 0 → nl + K ≤ pl + H → pl + H - (nl + K) + nt + e ≡ pt + H
-    above pt nt pl nl H K e x k g = omega arith
-
-    below : (pt nt pl nl H K e : ℕ) → e + (nt + pl) ≡ pt + nl → K ≡ 0 → pl + H ≤ nl + K → nl + K - (pl + H) + pt + H ≡ nt + e
-    below pt nt pl nl H K e x k g = omega arith
-
-    gone : (a c : ℕ) → a ≤ c → a - c ≡ 0
-    gone a c g = omega arith
-
-    nothing : (a c : ℕ) → c ≡ 0 → 1024 * a ≤ 1025 * c + 512 → a ≡ 0
-    nothing a c z f = omega arith
-
-    more : nt + Np ≤ pt + e → nt + Np ≤ pt + Nn + e
-    more c = omega arith
-
-    none : Np ≡ 0 → nt ≤ pt + Nn + e → nt + Np ≤ pt + Nn + e
-    none z c = omega arith
-
-module _ (pt nt pl nl Q M : ℕ) (less : M < Q) (one : M ≤ unity) (ts : (pt ≡ 0) ⊎ (nt ≡ 0)) (ls : (pl ≡ 0) ⊎ (nl ≡ 0))
-    (ept : Exact pt) (ent : Exact nt) (epl : Exact pl) (enl : Exact nl) (ed : Exact (diff (pt + nl) (nt + pl)))
-    (top : pt + nt ≤ 2 ^ 155) (dt : Digits (pt + nt)) (dl : Digits (pl + nl)) (dq : Digits Q) (dm : Digits M) (up : nt + pl ≤ pt + nl) where
   abbrev D : ℕ
   D = diff (pt + nl) (nt + pl)
 
@@ -135,45 +79,103 @@ module _ (pt nt pl nl Q M : ℕ) (less : M < Q) (one : M ≤ unity) (ts : (pt �
   no-more : H ≤ D
   no-more = back-at-most D Q M ed dq dm less one
 
-  -- where the difference is an f32: not past the target at all
-  not-past : Exact (pt + nl - (nt + pl)) → nt + Np ≤ pt + Nn
-  not-past e =
-      let h : pl + H + nt ≤ pt + (nl + K) = before pt nt pl nl H K (pt + nl - (nt + pl)) (le-trans no-more (le-of-eq e)) up in
+  at-most-one : H ≤ unity
+  at-most-one =
+      let QP : 0 < Q = lt-of-le-of-lt zero-le less in
+      let g : rounded D Q ≤ unity =
+      le-trans (grid-mono binary32 D Q unity unity QP unity-pos (le-trans (mul-le-mul-right unity short) (le-of-eq (mul-comm Q unity))))
+      (le-of-eq exact-one) in
+      le-trans
+      (grid-mono binary32 (rounded D Q * M) (unity * unity) unity unity (mul-pos unity-pos unity-pos) unity-pos
+      (le-trans (mul-le-mul-right unity (mul-le-mul g one)) (le-of-eq (mul-comm (unity * unity) unity))))
+      (le-of-eq exact-one)
+
+  -- ---- a move of at most the difference
+  stops-short : H ≤ E → nt + Np ≤ pt + Nn
+  stops-short g =
+      let h : pl + H + nt ≤ pt + (nl + K) = before pt nt pl nl H K g up in
       let s = sum-mono binary32 (pl + H) (nl + K) pt nt h in
       let o = own pt nt ts ept ent in
       turn Np (rounded (nt - pt) unity) (rounded (pt - nt) unity) Nn pt nt s (o .0) (o .1)
     where
-      before : (pt nt pl nl h k e : ℕ) → h ≤ pt + nl - (nt + pl) → nt + pl ≤ pt + nl → pl + h + nt ≤ pt + (nl + k)
-      before pt nt pl nl h k e a b = omega arith
+      before : (pt nt pl nl h k : ℕ) → h ≤ pt + nl - (nt + pl) → nt + pl ≤ pt + nl → pl + h + nt ≤ pt + (nl + k)
+      before pt nt pl nl h k a b = omega arith
 
       turn : (a b c d p n : ℕ) → a + b ≤ c + d → c ≡ p → b ≡ n → n + a ≤ p + d
       turn a b c d p n h x y = omega arith
 
-  past-by-less : nt + Np ≤ pt + Nn + (pt + nl - (nt + pl))
-  past-by-less =
-      let E = pt + nl - (nt + pl) in
-      elim (total (2 ^ 24) E) [
-        | inr s ↦ elim (eq-or-lt-of-le s) [ inl e ↦ by-size (le-of-eq (sym e)) | inr l ↦ weaken (not-past (exact-whole E l)) ]
-        | inl b ↦ by-size b
-      ]
+  -- ---- a longer one: the sum is H - E past the target, and is rounded by that much at most; c is twice as much
+  passes : (c : ℕ) → E < H → 2 * H ≤ 2 * E + c → nt + Np ≤ pt + Nn + c
+  passes c g r = by-side (rest (pt + nl) (nt + pl) up) ts
     where
-      weaken : nt + Np ≤ pt + Nn → nt + Np ≤ pt + Nn + (pt + nl - (nt + pl))
-      weaken h = omega arith
+      above : (pt nt pl nl H K E Np Nn c : ℕ) → E + (nt + pl) ≡ pt + nl → K ≡ 0 → nt ≡ 0 → E < H → 2 * H ≤ 2 * E + c
+          → gap Np (pl + H - (nl + K)) ≤ gap pt (pl + H - (nl + K)) → nt + Np ≤ pt + Nn + c
+      above pt nt pl nl H K E Np Nn c e k z g r a = omega arith
 
-      rest : (a b : ℕ) → b ≤ a → a - b + b ≡ a
-      rest a b h = omega arith
+      -- a target below zero, where the sum is above zero, and where it is not
+      across : (nt pl nl H K E Np Nn c : ℕ) → E + (nt + pl) ≡ nl → K ≡ 0 → 2 * H ≤ 2 * E + c → nl + K ≤ pl + H
+          → gap Np (pl + H - (nl + K)) ≤ gap 0 (pl + H - (nl + K)) → nt + Np ≤ Nn + c
+      across nt pl nl H K E Np Nn c e k r s a = omega arith
 
-      by-size : 2 ^ 24 ≤ pt + nl - (nt + pl) → nt + Np ≤ pt + Nn + (pt + nl - (nt + pl))
-      by-size b = elim (exact-or-large pt nt pl nl top dt dl up ts ls) [
-        | inl e ↦ weaken (not-past e)
-        | inr w ↦ crude pt nt pl nl H K D (pt + nl - (nt + pl)) Np Nn (rest (pt + nl) (nt + pl) up) still
-            (summed (pl + H - (nl + K))) (summed (nl + K - (pl + H))) (summed (pt + nl - (nt + pl))) no-more w b
-      ]
+      below : (nt pl nl H K E Np Nn c : ℕ) → E + (nt + pl) ≡ nl → K ≡ 0 → E < H → 2 * H ≤ 2 * E + c → pl + H ≤ nl + K → Np ≡ 0
+          → gap Nn (nl + K - (pl + H)) ≤ gap nt (nl + K - (pl + H)) → nt + Np ≤ Nn + c
+      below nt pl nl H K E Np Nn c e k g r s z b = omega arith
 
-  -- so it is no farther
-  pub no-farther : gap (pt + Nn) (nt + Np) ≤ gap (pt + nl) (nt + pl)
-  no-farther = close pt nt pl nl Np Nn up (adv pl nl H K ls still epl enl) past-by-less
+      alone : (a b : ℕ) → b ≡ 0 → a + b ≡ a
+      alone a b z = omega arith
+
+      other : (a b : ℕ) → a ≡ 0 → a + b ≡ b
+      other a b z = omega arith
+
+      gone : (a b : ℕ) → a ≤ b → a - b ≡ 0
+      gone a b h = omega arith
+
+      more : nt + Np ≤ Nn + c → nt + Np ≤ pt + Nn + c
+      more i = omega arith
+
+      by-side : E + (nt + pl) ≡ pt + nl → (pt ≡ 0) ⊎ (nt ≡ 0) → nt + Np ≤ pt + Nn + c
+      by-side e (inr z) =
+          above pt nt pl nl H K E Np Nn c e still z g r (sum-nearest (pl + H - (nl + K)) pt (subst Digits (alone pt nt z) dt))
+      by-side e (inl z) =
+          let f : E + (nt + pl) ≡ nl = e ∙ other pt nl z in
+          more (elim (total (nl + K) (pl + H)) [
+            | inl s ↦ across nt pl nl H K E Np Nn c f still r s (sum-nearest (pl + H - (nl + K)) 0 (0, 0, refl, lit< tt))
+            | inr s ↦ below nt pl nl H K E Np Nn c f still g r s (rounded-zero (pl + H - (nl + K)) (gone (pl + H) (nl + K) s))
+                (sum-nearest (nl + K - (pl + H)) nt (subst Digits (other pt nt z) dt))
+          ])
+
+  -- so it passes by c at most, where c is twice the way by which a difference of less than H is rounded up
+  past : (c : ℕ) → (E < H → 2 * D ≤ 2 * E + c) → nt + Np ≤ pt + Nn + c
+  past c r = elim (le-or-lt H E) [
+    | inl g ↦ weaken Np (pt + Nn) c (stops-short g)
+    | inr g ↦ passes c g (through H D (2 * E + c) no-more (r g))
+  ]
     where
+      weaken : (a b k : ℕ) → nt + a ≤ b → nt + a ≤ b + k
+      weaken a b k c = omega arith
+
+      through : (a b c : ℕ) → a ≤ b → 2 * b ≤ c → 2 * a ≤ c
+      through a b c x y = omega arith
+
+  -- by no more than the difference, since that is rounded by one part in 1024 at most
+  no-farther : gap (pt + Nn) (nt + Np) ≤ gap (pt + nl) (nt + pl)
+  no-farther =
+      close pt nt pl nl Np Nn up (adv pl nl H K ls still epl enl) (past E (λ g. little D E (lt-of-lt-of-le g no-more) (summed E .up)))
+    where
+      little : (d e : ℕ) → e < d → 1024 * d ≤ 1025 * e + 512 → 2 * d ≤ 2 * e + e
+      little d e g h = omega arith
+
       close : (pt nt pl nl a b : ℕ) → nt + pl ≤ pt + nl → pl + b ≤ nl + a → nt + a ≤ pt + b + (pt + nl - (nt + pl))
           → gap (pt + b) (nt + a) ≤ gap (pt + nl) (nt + pl)
       close pt nt pl nl a b u v w = omega arith
+
+  -- and by 2 ^ -24, since the move is at most 1, and a difference below 1 is rounded by 2 ^ -25 at most
+  past-by : nt + Np ≤ pt + Nn + δ
+  past-by = past δ (λ g. part D E δ unity unity-pos
+      (grid-abs binary32 E unity 125 unity-pos (mul-lt-mul-of-pos-right (lt-of-lt-of-le g at-most-one) unity-pos) .0))
+    where
+      part : (d e c u : ℕ) → 0 < u → 2 * (d * u) ≤ 2 * (e * u) + u * c → 2 * d ≤ 2 * e + c
+      part d e c u p h = le-of-mul-le-mul-right {m = 2 * d} {n = 2 * e + c} {k = u} (omega arith) p
+
+  pub passed : Passed pt nt pl nl Q M
+  passed = record { no-farther = no-farther; past-by = past-by }

@@ -1,6 +1,6 @@
 -- One step of a walk: it stays on the way, S falls where it moved, and each coordinate stays between its start and its target and comes
 -- no farther from it.
-use mathlib.Core.Path.{_≡_, refl, sym, ap, _∙_, subst}
+use mathlib.Core.Path.{_≡_, refl, sym, _∙_, subst}
 use mathlib.Core.Logic.{_⊎_, inl, inr}
 use Prim.Native.Nat.{ℕ, zero, suc, _+_, _*_, _≤_, _<_, zero-le}
 use native.Mathlib.Nat.{lt-of-lt-of-le}
@@ -16,9 +16,8 @@ use Rattle.units.proofs.Held.{Single}
 use Rattle.legs.specs.declared.Point.{Point}
 use Rattle.moves.specs.Distance.{Each, same, distance}
 use Rattle.moves.specs.Moving.{moveTowards, nearer, along, pointOf}
-use Rattle.moves.specs.declared.MoveStep.{MoveStep}
 use Rattle.moves.specs.declared.MoveStep.the-variants.{Moved, Arrived}
-use Rattle.moves.proofs.Steps.{stands, moves, goes-there, goes-along, arrived-at-target}
+use Rattle.moves.proofs.Steps.{stands, moves, goes-there, goes-along, after-step}
 use Rattle.walks.specs.Walk.{spread}
 use Rattle.walks.proofs.Aim.{Aim, OnWay}
 use Rattle.walks.proofs.Descent.{lowers}
@@ -83,12 +82,18 @@ module _ (m : Float) (l t : Point) (aim : Aim m t) (way : OnWay l t) where
       above zero h = absurd (h refl)
       above (suc a) h = omega arith
 
+  there : OnWay t t
+  there = record { held = aim .held; point = aim .target; near = subst (λ (a : ℕ). a ≤ 18 * unity) (sym (spread-self t)) zero-le }
+
+  ends : (s : Point) → Between s t t
+  ends s = record { x = at-end (s .x) (t .x); y = at-end (s .y) (t .y); z = at-end (s .z) (t .z) }
+
   to-target : same l t ≡ false → Moves m l t t
   to-target e = record {
-    way = record { held = aim .held; point = aim .target; near = subst (λ (a : ℕ). a ≤ 18 * unity) (sym (spread-self t)) zero-le };
+    way = there;
     less = subst (λ (a : ℕ). a < spread l t) (sym (spread-self t)) (elsewhere e);
     falls = inr (spread-self t);
-    between = λ s b. record { x = at-end (s .x) (t .x); y = at-end (s .y) (t .y); z = at-end (s .z) (t .z) };
+    between = λ s b. ends s;
     no-farther = at-target l t;
   }
 
@@ -142,25 +147,8 @@ module _ (m : Float) (l t : Point) (aim : Aim m t) (way : OnWay l t) where
     pub no-farther : NoFarther l t (pointOf (moveTowards l t m))
 
   pub kept : Kept
-  unfolding pointOf
-  kept = by-answer (moveTowards l t m) refl
-    where
-      by-answer : (a : MoveStep) → moveTowards l t m ≡ a → Kept
-      by-answer (Moved p) e =
-          let w = moved p e in
-          let q : p ≡ pointOf (moveTowards l t m) = sym (ap pointOf e) in
-          record {
-            on = subst (λ (r : Point). OnWay r t) q (w .way);
-            between = λ s b. subst (Between s t) q (w .between s b);
-            no-farther = subst (NoFarther l t) q (w .no-farther);
-          }
-      by-answer (Arrived p) e =
-          let q : t ≡ pointOf (moveTowards l t m) = sym (ap pointOf e ∙ arrived-at-target l t m p e) in
-          record {
-            on =
-                subst (λ (r : Point). OnWay r t) q
-                (record { held = aim .held; point = aim .target; near = subst (λ (a : ℕ). a ≤ 18 * unity) (sym (spread-self t)) zero-le });
-            between =
-                λ s b. subst (Between s t) q (record { x = at-end (s .x) (t .x); y = at-end (s .y) (t .y); z = at-end (s .z) (t .z) });
-            no-farther = subst (NoFarther l t) q (at-target l t);
-          }
+  kept = record {
+    on = after-step l t m (λ (p : Point). OnWay p t) there (λ e. onward e .way);
+    between = λ s b. after-step l t m (Between s t) (ends s) (λ e. onward e .between s b);
+    no-farther = after-step l t m (NoFarther l t) (at-target l t) (λ e. onward e .no-farther);
+  }

@@ -1,3 +1,4 @@
 pub mod Walk
 pub mod Reach
 pub mod Answers
+pub mod Swing
