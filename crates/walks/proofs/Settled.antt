@@ -1,5 +1,5 @@
--- Where a coordinate of a walk is, to the unit: between its start and its target, or at most 2 ^ -24 from its target. So it never goes
--- back past its start, and it passes its target by 2 ^ -24 at most.
+-- Where a coordinate of a walk is, to the unit: between its start and its target, or at most 2 ^ -24 from its target, which it may have
+-- passed.
 use mathlib.Core.Path.{sym, subst}
 use mathlib.Core.Logic.{_⊎_, inl, inr}
 use mathlib.Core.Bool.{Bool, not}
