@@ -15,7 +15,6 @@ use Rattle.units.proofs.Values.{hi-is, lo-is, mag-is, mag-parts}
 use Rattle.units.proofs.Errors.{rounded-mono}
 use Rattle.units.proofs.Whole.{total}
 use Rattle.units.proofs.Digits.{Digits, digits-of}
-use Rattle.roots.specs.Root.{squareRoot}
 use Rattle.legs.specs.declared.Point.{Point}
 use Rattle.moves.specs.Distance.{apart², square, squareSum, horizontalSum, distance}
 use Rattle.moves.proofs.Largest.{square-sum-rootable}
@@ -38,6 +37,11 @@ no-less-sum a b d = le-trans (own (rounded a unity) a (sum-nearest a a d)) (roun
 value-digits : (x : Float) (a : ℕ) → Fit x → HasValue x false a unity → Digits a
 value-digits x a F v = subst Digits (mag-is x false a v) (digits-of x F)
 
+square-digits : (a b : Float) → Units a → Units b → apart b a ≤ 18 * unity → Digits (sq (size b a))
+square-digits a b ua ub h =
+    let d = sub binary32 b a in
+    value-digits (square d) (sq (size b a)) (mul-fits binary32 d d) (square-value b a ub ua h)
+
 -- ---- the three differences X, Y, Z
 module _ (l t : Point) (n : Near l t) where
   abbrev X : ℕ
@@ -48,11 +52,6 @@ module _ (l t : Point) (n : Near l t) where
 
   abbrev Z : ℕ
   Z = size (t .z) (l .z)
-
-  square-digits : (a b : Float) → Units a → Units b → apart b a ≤ 18 * unity → Digits (sq (size b a))
-  square-digits a b ua ub h =
-      let d = sub binary32 b a in
-      value-digits (square d) (sq (size b a)) (mul-fits binary32 d d) (square-value b a ub ua h)
 
   both-digits : Digits (both X Y)
   unfolding horizontalSum
@@ -75,19 +74,24 @@ module _ (l t : Point) (n : Near l t) where
       le-trans (no-less-sum (sq Z) (both X Y) (square-digits (l .z) (t .z) (n .from .2) (n .to .2) (n .z)))
       (le-of-eq (ap (λ (a : ℕ). rounded a unity) (add-comm (sq Z) (both X Y))))
 
--- a difference from 2 ^ -12 on whose square is in the sum
-difference-no-more : (l t : Point) (n : Near l t) (a b : Float) → Units a → Units b → apart b a ≤ 18 * unity → 2 ^ 137 ≤ size b a
-    → sq (size b a) ≤ all (size (t .x) (l .x)) (size (t .y) (l .y)) (size (t .z) (l .z)) → size b a ≤ mag (distance l t)
-unfolding distance
-difference-no-more l t n a b ua ub h many below =
-    let d = sub binary32 b a in
-    let p = diff-part b a (hi b) (lo b) (hi a) (lo a) ub ua h in
-    let e : mag d ≡ size b a =
-    mag-parts d ∙ ap₂ (λ (v w : ℕ). v + w) (hi-is d (diff (hi b + lo a) (lo b + hi a)) (diff (lo b + hi a) (hi b + lo a)) p)
-    (lo-is d (diff (hi b + lo a) (lo b + hi a)) (diff (lo b + hi a) (hi b + lo a)) p) in
-    subst (λ (w : ℕ). w ≤ mag (squareRoot (squareSum l t))) e
-    (root-no-less (squareSum l t) d _ (square-sum-rootable l t .held) (sub-fits binary32 b a) (square-sum-value l t n)
-    (le-trans many (le-of-eq (sym e))) (le-trans (le-of-eq (ap sq e)) below))
+  -- the difference of a and b, whose square is in the sum; the distance is Q, from 2 ^ -12 on
+  no-more : (Q : ℕ) → mag (distance l t) ≡ Q → 2 ^ 137 ≤ Q → (a b : Float) → Units a → Units b → apart b a ≤ 18 * unity
+      → sq (size b a) ≤ all X Y Z → size b a ≤ Q
+  unfolding distance
+  no-more Q q many a b ua ub h below = elim (total (size b a) Q) [
+    | inl i ↦ i
+    | inr i ↦
+        let d = sub binary32 b a in
+        let p = diff-part b a (hi b) (lo b) (hi a) (lo a) ub ua h in
+        let e : mag d ≡ size b a =
+        mag-parts d ∙ ap₂ (λ (v w : ℕ). v + w) (hi-is d (diff (hi b + lo a) (lo b + hi a)) (diff (lo b + hi a) (hi b + lo a)) p)
+        (lo-is d (diff (hi b + lo a) (lo b + hi a)) (diff (lo b + hi a) (hi b + lo a)) p) in
+        le-trans (le-of-eq (sym e))
+        (le-trans
+        (root-no-less (squareSum l t) d (all X Y Z) (square-sum-rootable l t .held) (sub-fits binary32 b a) (square-sum-value l t n)
+        (le-trans (le-trans many i) (le-of-eq (sym e))) (le-trans (le-of-eq (ap sq e)) below))
+        (le-of-eq q))
+  ]
 
 -- ---- a step that goes along, of a distance of Q units
 module _ (m : Float) (l t : Point) (aim : Aim m t) (way : OnWay l t) (far : T (not (le (distance l t) m))) where
@@ -100,17 +104,10 @@ module _ (m : Float) (l t : Point) (aim : Aim m t) (way : OnWay l t) (far : T (n
   none-above =
       let w = measured m l t aim way far in
       let n = near-target m l t aim way far in
-      let one : (a b : Float) → Units a → Units b → apart b a ≤ 18 * unity
-      → sq (size b a) ≤ all (size (t .x) (l .x)) (size (t .y) (l .y)) (size (t .z) (l .z)) → size b a ≤ w .Q =
-      λ a b ua ub h below. elim (total (size b a) (w .Q)) [
-        | inl i ↦ i
-        | inr i ↦
-            le-trans
-            (difference-no-more l t n a b ua ub h (le-trans (le-trans (aim .from) (le-of-lt (w .above))) i) below)
-            (le-of-eq (mag-is (distance l t) false (w .Q) (w .value)))
-      ] in
+      let e = mag-is (distance l t) false (w .Q) (w .value) in
+      let many = le-trans (aim .from) (le-of-lt (w .above)) in
       record {
-        x = one (l .x) (t .x) (n .from .0) (n .to .0) (n .x) (x-below l t n);
-        y = one (l .y) (t .y) (n .from .1) (n .to .1) (n .y) (y-below l t n);
-        z = one (l .z) (t .z) (n .from .2) (n .to .2) (n .z) (z-below l t n);
+        x = no-more l t n (w .Q) e many (l .x) (t .x) (n .from .0) (n .to .0) (n .x) (x-below l t n);
+        y = no-more l t n (w .Q) e many (l .y) (t .y) (n .from .1) (n .to .1) (n .y) (y-below l t n);
+        z = no-more l t n (w .Q) e many (l .z) (t .z) (n .from .2) (n .to .2) (n .z) (z-below l t n);
       }

@@ -26,8 +26,9 @@ use Rattle.walks.proofs.Components.{none-above}
 use Rattle.walks.proofs.Keeps.{Below, BelowBy}
 use Rattle.walks.proofs.Passing.{Passed, passed}
 
--- a coordinate that goes from l to n passes its target t by 2 ^ -24 at most
-pub record Past (l t n : Float) : Type 0 where
+-- a coordinate that goes from l to n comes no farther from its target t, and passes it by 2 ^ -24 at most
+pub record Nears (l t n : Float) : Type 0 where
+  pub no-farther : apart t n ≤ apart t l
   pub up : Below l t → BelowBy δ n t
   pub down : Below t l → BelowBy δ t n
 
@@ -117,8 +118,9 @@ module _ (l t d m : Float) (Q M : ℕ) (sl : Single l) (st : Single t) (ft : Fit
           subst (λ (a : ℕ). gap (hi t + Nn) (lo t + Np) ≤ a) (swap (lo t + hi l) (hi t + lo l))
           (subst (λ (a : ℕ). a ≤ gap (lo t + hi l) (hi t + lo l)) (swap (lo t + Np) (hi t + Nn)) (downwards h .no-farther))
 
-  coordinate-past : Past l t n
-  coordinate-past = record {
+  pub nears : Nears l t n
+  nears = record {
+    no-farther = coordinate-no-farther;
     up = λ h. as-up (hi t) (lo t) (hi n) (lo n) Np Nn δ (hi-is n Np Nn part) (lo-is n Np Nn part)
         (upwards (order (hi l) (lo t) (lo l) (hi t) h) .past-by);
     down = λ h. as-down (hi t) (lo t) (hi n) (lo n) Np Nn δ (hi-is n Np Nn part) (lo-is n Np Nn part) (downwards h .past-by);
@@ -133,50 +135,42 @@ module _ (l t d m : Float) (Q M : ℕ) (sl : Single l) (st : Single t) (ft : Fit
       as-down : (ht lt hn ln Np Nn k : ℕ) → hn ≡ Np → ln ≡ Nn → ht + Nn ≤ lt + Np + k → ht + ln ≤ lt + hn + k
       as-down ht lt hn ln Np Nn k a b h = omega arith
 
-  pub both-facts : (apart t n ≤ apart t l) × Past l t n
-  both-facts = (coordinate-no-farther, coordinate-past)
+-- ---- the three coordinates of a step from l to p, and that p is no farther from t than l is
+pub record AllNear (l t p : Point) : Type 0 where
+  pub x : Nears (l .x) (t .x) (p .x)
+  pub y : Nears (l .y) (t .y) (p .y)
+  pub z : Nears (l .z) (t .z) (p .z)
 
--- ---- three coordinates: p is no farther from t than l is
 pub record NoFarther (l t p : Point) : Type 0 where
   pub x : apart (t .x) (p .x) ≤ apart (t .x) (l .x)
   pub y : apart (t .y) (p .y) ≤ apart (t .y) (l .y)
   pub z : apart (t .z) (p .z) ≤ apart (t .z) (l .z)
-
--- and passes it by little
-pub record AllPast (l t p : Point) : Type 0 where
-  pub x : Past (l .x) (t .x) (p .x)
-  pub y : Past (l .y) (t .y) (p .y)
-  pub z : Past (l .z) (t .z) (p .z)
 
 module _ (m : Float) (l t : Point) (aim : Aim m t) (way : OnWay l t) (far : T (not (le (distance l t) m))) where
   distance-held : Fit (distance l t)
   unfolding distance
   distance-held = root-fits (squareSum l t) (square-sum-rootable l t .held)
 
-  -- the three coordinates at once
-  abbrev Facts : Float → Float → Float → Type 0
-  Facts a b n = (apart b n ≤ apart b a) × Past a b n
-
-  each : Facts (l .x) (t .x) (along (distance l t) m l t .x) × Facts (l .y) (t .y) (along (distance l t) m l t .y)
-      × Facts (l .z) (t .z) (along (distance l t) m l t .z)
+  pub along-nears : AllNear l t (along (distance l t) m l t)
   unfolding along
-  each =
+  along-nears =
       let d = distance l t in
       let w = measured m l t aim way far in
       let n = near m l t aim way far in
       let q = none-above m l t aim way far in
       let dq : Digits (w .Q) = subst Digits (mag-is d false (w .Q) (w .value)) (digits-of d distance-held) in
-      let dm : Digits (mag m) = digits-of m (aim .held-move) in (
-        both-facts (l .x) (t .x) d m (w .Q) (mag m) (way .point .0) (aim .target .0) (aim .held .0) (w .value) (aim .move) dq dm
-            (w .above) (aim .to) (aim .near .0) (n .0) (q .x),
-        both-facts (l .y) (t .y) d m (w .Q) (mag m) (way .point .1) (aim .target .1) (aim .held .1) (w .value) (aim .move) dq dm
-            (w .above) (aim .to) (aim .near .1) (n .1) (q .y),
-        both-facts (l .z) (t .z) d m (w .Q) (mag m) (way .point .2) (aim .target .2) (aim .held .2) (w .value) (aim .move) dq dm
-            (w .above) (aim .to) (aim .near .2) (n .2) (q .z),
-      )
+      let dm : Digits (mag m) = digits-of m (aim .held-move) in
+      record {
+        x =
+            nears (l .x) (t .x) d m (w .Q) (mag m) (way .point .0) (aim .target .0) (aim .held .0) (w .value) (aim .move) dq dm
+            (w .above) (aim .to) (aim .near .0) (n .0) (q .x);
+        y =
+            nears (l .y) (t .y) d m (w .Q) (mag m) (way .point .1) (aim .target .1) (aim .held .1) (w .value) (aim .move) dq dm
+            (w .above) (aim .to) (aim .near .1) (n .1) (q .y);
+        z =
+            nears (l .z) (t .z) d m (w .Q) (mag m) (way .point .2) (aim .target .2) (aim .held .2) (w .value) (aim .move) dq dm
+            (w .above) (aim .to) (aim .near .2) (n .2) (q .z);
+      }
 
   pub along-no-farther : NoFarther l t (along (distance l t) m l t)
-  along-no-farther = record { x = each .0 .0; y = each .1 .0; z = each .2 .0 }
-
-  pub along-past : AllPast l t (along (distance l t) m l t)
-  along-past = record { x = each .0 .1; y = each .1 .1; z = each .2 .1 }
+  along-no-farther = record { x = along-nears .x .no-farther; y = along-nears .y .no-farther; z = along-nears .z .no-farther }

@@ -39,26 +39,24 @@ placed w h = record {
     whole : (n : ℕ) → 24 ≤ n → n ≡ 24 + (n - 24)
     whole n h = omega arith
 
+-- two multiples of p are p apart
+pub place-more : (a b p v w : ℕ) → v ≡ a * p → w ≡ b * p → v < w → v + p ≤ w
+place-more a b p v w e f h =
+    let l : a < b = lt-of-mul-lt-mul-right p (lt-of-le-of-lt (le-of-eq (sym e)) (lt-of-lt-of-le h (le-of-eq f))) in
+    let m : (a + 1) * p ≤ b * p = mul-le-mul-right p (next l) in
+    omega arith
+  where
+    next : a < b → a + 1 ≤ b
+    next l = omega arith
+
 -- ---- the next f32 below
 -- w is a multiple of p below 2 ^ 24 of them, v a smaller one
 by-multiples : (a b p w v : ℕ) → w ≡ a * p → v ≡ b * p → v < w → w < 16777216 * p → 16777216 * v + w ≤ 16777216 * w
-by-multiples a b p w v e f h g =
-    let l : b < a = lt-of-mul-lt-mul-right p (lt-of-le-of-lt (le-of-eq (sym f)) (lt-of-lt-of-le h (le-of-eq e))) in
-    let m : (b + 1) * p ≤ a * p = mul-le-mul-right p (next l) in
-    omega arith
-  where
-    next : b < a → b + 1 ≤ a
-    next l = omega arith
+by-multiples a b p w v e f h g = let m : v + p ≤ w = place-more b a p v w f e h in omega arith
 
 -- v lies in the binade below, where p is half as large
 by-halves : (b p w v : ℕ) → v ≡ b * p → v < 16777216 * p → 16777216 * p ≤ w → 16777216 * v + w ≤ 16777216 * w
-by-halves b p w v f h g =
-    let l : b < 16777216 = lt-of-mul-lt-mul-right p (lt-of-le-of-lt (le-of-eq (sym f)) h) in
-    let m : (b + 1) * p ≤ 16777216 * p = mul-le-mul-right p (next l) in
-    omega arith
-  where
-    next : b < 16777216 → b + 1 ≤ 16777216
-    next l = omega arith
+by-halves b p w v f h g = let m : v + p ≤ 16777216 * p = place-more b 16777216 p v (16777216 * p) f refl h in omega arith
 
 small-below : (w v : ℕ) → v < w → w < 16777216 → 16777216 * v + w ≤ 16777216 * w
 small-below w v h g = omega arith

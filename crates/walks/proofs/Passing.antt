@@ -50,7 +50,7 @@ pub record Passed (pt nt pl nl Q M : ℕ) : Type 0 where
   pub no-farther : gap (pt + next nt pt nl pl Q M) (nt + next pt nt pl nl Q M) ≤ gap (pt + nl) (nt + pl)
   pub past-by : nt + next pt nt pl nl Q M ≤ pt + next nt pt nl pl Q M + δ
 
--- the target pt - nt is no lower than the last point pl - nl; the difference is not above the distance Q, nor the max move M
+-- the target pt - nt is no lower than the last point pl - nl; neither their difference nor the max move M is above the distance Q
 module _ (pt nt pl nl Q M : ℕ) (less : M < Q) (one : M ≤ unity) (ts : (pt ≡ 0) ⊎ (nt ≡ 0)) (ls : (pl ≡ 0) ⊎ (nl ≡ 0))
     (ept : Exact pt) (ent : Exact nt) (epl : Exact pl) (enl : Exact nl) (ed : Exact (diff (pt + nl) (nt + pl)))
     (short : diff (pt + nl) (nt + pl) ≤ Q) (dt : Digits (pt + nt)) (dq : Digits Q) (dm : Digits M) (up : nt + pl ≤ pt + nl) where

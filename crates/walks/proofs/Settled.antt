@@ -18,16 +18,16 @@ use Rattle.walks.specs.Walk.{pointAfter}
 use Rattle.walks.proofs.Aim.{Aim, OnWay}
 use Rattle.walks.proofs.Coordinate.{δ}
 use Rattle.walks.proofs.Keeps.{Below, BelowBy, Kept, all-kept}
-use Rattle.walks.proofs.Nearer.{Past, along-no-farther, along-past}
+use Rattle.walks.proofs.Nearer.{Nears, along-nears}
 use Rattle.walks.proofs.Trail.{on-way}
 
--- no lower than both s and t, and no higher
-pub record Exactly (s t p : Float) : Type 0 where
+-- p is no lower than both s and t, and no higher
+pub record Enclosed (s t p : Float) : Type 0 where
   pub low : Below s p ⊎ Below t p
   pub high : Below p s ⊎ Below p t
 
 abbrev pub Settled : Float → Float → Float → Type 0
-Settled s t p = Exactly s t p ⊎ (apart t p ≤ δ)
+Settled s t p = Enclosed s t p ⊎ (apart t p ≤ δ)
 
 below-self : (x : Float) → Below x x
 below-self x = level (hi x) (lo x)
@@ -67,9 +67,9 @@ either x y = elim (total (hi x + lo y) (lo x + hi y)) [ inl h ↦ inl h | inr h 
     turned a b c d h = omega arith
 
 -- a step from l to n
-settled-step : (s t l n : Float) → Kept l t n → Past l t n → apart t n ≤ apart t l → Settled s t l → Settled s t n
-settled-step s t l n k p c (inr near) = inr (le-trans c near)
-settled-step s t l n k p c (inl i) = by-side (either l t) (either n t)
+settled-step : (s t l n : Float) → Kept l t n → Nears l t n → Settled s t l → Settled s t n
+settled-step s t l n k p (inr near) = inr (le-trans (p .no-farther) near)
+settled-step s t l n k p (inl i) = by-side (either l t) (either n t)
   where
     onward : Below l n → Below s l ⊎ Below t l → Below s n ⊎ Below t n
     onward h (inl g) = inl (then s l n g h)
@@ -81,9 +81,9 @@ settled-step s t l n k p c (inl i) = by-side (either l t) (either n t)
 
     by-side : Below l t ⊎ Below t l → Below n t ⊎ Below t n → Settled s t n
     by-side (inl h) (inl g) = inl (record { low = onward (k .up h .0) (i .low); high = inr g })
-    by-side (inl h) (inr g) = inr (close-above t n (δ) g (p .up h))
+    by-side (inl h) (inr g) = inr (close-above t n δ g (p .up h))
     by-side (inr h) (inr g) = inl (record { low = inr g; high = backward (k .down h .0) (i .high) })
-    by-side (inr h) (inl g) = inr (close-below t n (δ) g (p .down h))
+    by-side (inr h) (inl g) = inr (close-below t n δ g (p .down h))
 
 -- ---- all three coordinates, after any number of steps
 pub record SettledPoint (s t p : Point) : Type 0 where
@@ -100,12 +100,11 @@ module _ (m : Float) (s t : Point) (aim : Aim m t) (start : OnWay s t) where
       let far = subst (λ (b : Bool). T (not b)) (sym e) tt in
       let p = along (distance l t) m l t in
       let k = all-kept m l t aim way far in
-      let a = along-past m l t aim way far in
-      let c = along-no-farther m l t aim way far in
+      let a = along-nears m l t aim way far in
       record {
-        x = settled-step (s .x) (t .x) (l .x) (p .x) (k .x) (a .x) (c .x) (b .x);
-        y = settled-step (s .y) (t .y) (l .y) (p .y) (k .y) (a .y) (c .y) (b .y);
-        z = settled-step (s .z) (t .z) (l .z) (p .z) (k .z) (a .z) (c .z) (b .z);
+        x = settled-step (s .x) (t .x) (l .x) (p .x) (k .x) (a .x) (b .x);
+        y = settled-step (s .y) (t .y) (l .y) (p .y) (k .y) (a .y) (b .y);
+        z = settled-step (s .z) (t .z) (l .z) (p .z) (k .z) (a .z) (b .z);
       })
 
   pub settled : (k : ℕ) → SettledPoint s t (pointAfter m s t k)

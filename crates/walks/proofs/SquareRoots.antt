@@ -1,13 +1,13 @@
 -- The root of an f32's rounded square is no less than that f32, and nor is the root of more.
-use mathlib.Core.Path.{_≡_, sym, ap, _∙_}
+use mathlib.Core.Path.{_≡_, refl, sym, ap, _∙_}
 use mathlib.Core.Logic.{inl, inr}
 use mathlib.Core.Bool.{false}
 use Prim.Native.Nat.{ℕ, zero, suc, _+_, _-_, _*_, _^_, _≤_, _<_}
-use native.Mathlib.Nat.{le-trans, le-of-eq, le-antisymm, lt-of-le-of-lt, lt-of-lt-of-le, lt-of-mul-lt-mul-right, lt-of-not-le, not-le-of-lt}
-use native.Mathlib.Nat.{mul-pos, mul-le-mul, mul-le-mul-left, mul-le-mul-right, le-of-mul-le-mul-right, zero-lt-suc}
+use native.Mathlib.Nat.{le-trans, le-of-eq, lt-of-lt-of-le, lt-of-not-le, not-le-of-lt, eq-or-lt-of-le, zero-lt-suc}
+use native.Mathlib.Nat.{one-mul, mul-pos, mul-le-mul, mul-le-mul-left, mul-le-mul-right, le-of-mul-le-mul-right}
 use native.Mathlib.Omega.{arith}
 use lib.Dec.{lit<, lit≤}
-use lib.Pow.{pow-add, pow-mono, pow-pos}
+use lib.Pow.{pow-add, pow-mono}
 use lib.Ieee.{Float, binary32, size}
 use lib.Ieee.Digits.{size-lt}
 use lib.Ieee.Exact.{HasValue}
@@ -22,7 +22,7 @@ use Rattle.units.proofs.Nearest.{rounded-nearest}
 use Rattle.roots.specs.Root.{squareRoot}
 use Rattle.roots.proofs.Laws.{root-closest, root-fits}
 use Rattle.moves.proofs.Squares.{Fit, sq}
-use Rattle.walks.proofs.Neighbours.{Placed, placed}
+use Rattle.walks.proofs.Neighbours.{Placed, placed, place-more}
 
 -- ---- on whole numbers: D is an f32, Q one below it, and n what Q is the root of; p is the place of D's last digit, u the number 1.
 -- D's square is rounded by one part in 2 ^ 24. So the root of n is above the midpoint of D and D - p, and Q is not the nearest
@@ -84,76 +84,41 @@ module _ (D Q : ℕ) (dD : Digits D) (dQ : Digits Q) (many : 2 ^ 137 ≤ D) wher
   at = placed D (le-trans (lit≤ tt) many)
 
   -- where D is the least of its place: a power of two
-  power-square : D ≡ 2 ^ 23 * 2 ^ k → D * D ≤ sq D * unity
+  power-square : 2 ^ 23 * 2 ^ k ≡ D → D * D ≤ sq D * unity
   power-square e =
-      exact-square D (2 ^ (k + k - 103)) (1, k + k - 103, sym (one-times (2 ^ (k + k - 103))), lit< tt)
-      (ap (λ (y : ℕ). y * y) (e ∙ sym (pow-add 2 23 k)) ∙ sym (pow-add 2 (23 + k) (23 + k)) ∙ ap (λ (y : ℕ). 2 ^ y) (count k far-up)
+      exact-square D (2 ^ (k + k - 103)) (1, k + k - 103, sym (one-mul (2 ^ (k + k - 103))), lit< tt)
+      (ap (λ (y : ℕ). y * y) (sym e ∙ sym (pow-add 2 23 k)) ∙ sym (pow-add 2 (23 + k) (23 + k)) ∙ ap (λ (y : ℕ). 2 ^ y) (count k far-up)
       ∙ pow-add 2 (k + k - 103) 149)
     where
-      one-times : (a : ℕ) → 1 * a ≡ a
-      one-times a = omega arith
-
       count : (k : ℕ) → 114 ≤ k → 23 + k + (23 + k) ≡ k + k - 103 + 149
       count k h = omega arith
 
-  -- above that, Q is a place below
-  place-below : 2 ^ 23 * 2 ^ k + 2 ^ k ≤ D → Q < D → Q + 2 ^ k ≤ D
-  place-below h l = elim (le-or-lt (2 ^ 23 * 2 ^ k) Q) [
-    | inl g ↦
-        let v = multiple Q k dQ g in
-        let w = multiple D k dD (at .low) in
-        let less : v .0 < w .0 =
-        lt-of-mul-lt-mul-right (2 ^ k) (lt-of-le-of-lt (le-of-eq (sym (v .1))) (lt-of-lt-of-le l (le-of-eq (w .1)))) in
-        next (v .0) (w .0) (2 ^ k) less (v .1) (w .1)
-    | inr g ↦ short (2 ^ k) g h
-  ]
+  -- where it is not, Q is a place below
+  place-below : 2 ^ 23 * 2 ^ k < D → Q < D → Q + 2 ^ k ≤ D
+  place-below h l =
+      let w = multiple D k dD (at .low) in
+      elim (le-or-lt (2 ^ 23 * 2 ^ k) Q) [
+        | inl g ↦ let v = multiple Q k dQ g in place-more (v .0) (w .0) (2 ^ k) Q D (v .1) (w .1) l
+        | inr g ↦ under (2 ^ 23 * 2 ^ k) (2 ^ k) g (place-more (2 ^ 23) (w .0) (2 ^ k) (2 ^ 23 * 2 ^ k) D refl (w .1) h)
+      ]
     where
-      next : (v w p : ℕ) → v < w → Q ≡ v * p → D ≡ w * p → Q + p ≤ D
-      next v w p l e f = let m : (v + 1) * p ≤ w * p = mul-le-mul-right p (step l) in omega arith
-        where
-          step : v < w → v + 1 ≤ w
-          step l = omega arith
-
-      short : (p : ℕ) → Q < 8388608 * p → 8388608 * p + p ≤ D → Q + p ≤ D
-      short p a b = omega arith
+      under : (b p : ℕ) → Q < b → b + p ≤ D → Q + p ≤ D
+      under b p g h = omega arith
 
   place-above : D + 2 ^ k ≤ 2 ^ 24 * 2 ^ k
-  place-above =
-      let w = multiple D k dD (at .low) in
-      next (w .0) (2 ^ k) (w .1) (lt-of-mul-lt-mul-right (2 ^ k) (lt-of-le-of-lt (le-of-eq (sym (w .1))) (at .high)))
-    where
-      next : (w p : ℕ) → D ≡ w * p → w < 16777216 → D + p ≤ 16777216 * p
-      next w p e l = let m : (w + 1) * p ≤ 16777216 * p = mul-le-mul-right p (step l) in omega arith
-        where
-          step : w < 16777216 → w + 1 ≤ 16777216
-          step l = omega arith
+  place-above = let w = multiple D k dD (at .low) in place-more (w .0) (2 ^ 24) (2 ^ k) D (2 ^ 24 * 2 ^ k) (w .1) refl (at .high)
 
   pub not-nearest : (n : ℕ) → sq D * unity ≤ n → Q < D → 4 * n < (Q + D) * (Q + D) → ⊥
-  not-nearest n above less nearer = elim (le-or-lt (2 ^ 23 * 2 ^ k + 2 ^ k) D) [
-    | inl h ↦
+  not-nearest n above less nearer = elim (eq-or-lt-of-le (at .low)) [
+    | inl e ↦ exactly-below D Q n less (le-trans (power-square e) above) nearer
+    | inr h ↦
         far-below D Q (2 ^ k) n unity (place-below h less) place-above (at .low)
         (le-trans {m = 2 ^ 114 * 2 ^ 114} (lit≤ tt) (mul-le-mul (pow-mono far-up) (pow-mono far-up)))
         (from (D * D) (sq D * unity) n unity (near-square D) above) nearer
-    | inr h ↦
-        let w = multiple D k dD (at .low) in
-        exactly-below D Q n less (le-trans (power-square (least (w .0) (2 ^ k) (pow-pos k) (w .1) (at .low) h)) above) nearer
   ]
     where
       from : (dd s n u : ℕ) → 16777216 * dd ≤ 16777216 * s + dd + 8388608 * u → s ≤ n → 16777216 * dd ≤ 16777216 * n + dd + 8388608 * u
       from dd s n u a b = omega arith
-
-      least : (w p : ℕ) → 0 < p → D ≡ w * p → 8388608 * p ≤ D → D < 8388608 * p + p → D ≡ 8388608 * p
-      least w p P e a b =
-          e ∙ ap (λ (y : ℕ). y * p)
-          (le-antisymm
-          (at-most (lt-of-mul-lt-mul-right p (lt-of-le-of-lt (le-of-eq (sym e)) (lt-of-lt-of-le b (le-of-eq (one-more p))))))
-          (le-of-mul-le-mul-right {m = 8388608} {n = w} {k = p} (le-trans a (le-of-eq e)) P))
-        where
-          one-more : (p : ℕ) → 8388608 * p + p ≡ 8388609 * p
-          one-more p = omega arith
-
-          at-most : w < 8388609 → w ≤ 8388608
-          at-most l = omega arith
 
 -- ---- of floats
 square-pos : (D : ℕ) → 2 ^ 137 ≤ D → 0 < sq D
