@@ -11,6 +11,7 @@ PAIRS = [
     ("arc cosine", "probe_arc_cosine", "acos"), ("atan2", "probe_atan2", "angle"), ("one move", "probe_move", "one_move"),
     ("six moves", "probe_move_feet", "six_moves"), ("longest distance", "probe_longest_distance", "longest"),
     ("a walk", "probe_walk", "one_walk"), ("six walks", "probe_walk_feet", "six_walks"),
+    ("timed progress", "probe_timed_progress", "progress_timed"), ("even progress", "probe_even_progress", "progress_even"),
     ("step by distance", "probe_step", "by_distance"), ("timed step", "probe_timed_step", "timed"),
     ("even step", "probe_even_step", "even"), ("planner", "probe_plan", "planned"),
     ("inverse kinematics", "probe_ik", "ik"), ("forward kinematics", "probe_fk", "fk"),

@@ -1,8 +1,11 @@
 #!/usr/bin/env python3
 """board.py NAME LIBRARY WORDS
-What a library compiled for a board takes there: bytes by room, symbols from outside, the deepest stack, and the bytes of the
-four angle functions and the root. WORDS are the compiler's, for linking. Needs the binutils of gcc-arm-none-eabi."""
+What a library compiled for a board takes there: bytes by room, what it wants from outside, the deepest stack, the bytes of the
+four angle functions and the root; and what a board's flash would hold, linked with the compiler's routines: bytes, what of them
+comes from outside, f64 routines and f64 instructions. Ends with status 1 where there is f64. WORDS are the compiler's, for
+linking. Needs the binutils and the libraries of gcc-arm-none-eabi."""
 import collections
+import functools
 import os
 import re
 import subprocess
@@ -23,7 +26,12 @@ ROOM = {
 ONCE_MORE = ["probe_next_step", "probe_next_timed", "probe_next_even"]
 FIVE = ["probe_sine", "probe_cosine", "probe_arc_cosine", "probe_atan2", "probe_square_root"]
 GOAL = 6 * 1024
-DOUBLE = re.compile(r"__aeabi_(c?d|[a-z]+2d)|df")  # __aeabi_dadd, __aeabi_cdcmple, __aeabi_f2d, __adddf3, __truncdfsf2
+# A routine on f64 by its name: __aeabi_dadd, __aeabi_cdcmple, __aeabi_d2f, __aeabi_f2d, __adddf3, __truncdfsf2.
+DOUBLE = re.compile(r"__aeabi_(c?d|[a-z]+2d)|__\w*df")
+# An instruction on f64. Loads and copies of a double register have none of these names: a unit for f32 alone has them too.
+DOUBLE_INSTRUCTION = re.compile(r"\tv\S*\.f64\b")
+# A part of a linker's map: section, address, bytes, archive and member.
+MAPPED = re.compile(r"^ (\.\S+)\s+0x[0-9a-f]+\s+0x([0-9a-f]+) (\S+\.a)\((\S+)\.o\)$", re.M)
 HEAP = re.compile(r"alloc|free|sbrk")
 
 
@@ -68,15 +76,59 @@ def by_room(path):
 
 def wanted(path):
     names = sorted({line.split()[-1] for line in tool("nm", "-u", path).splitlines() if " U " in line})
-    print("  from outside:", ", ".join(names) or "nothing")
-    print("  f64 routines among them:", ", ".join(n for n in names if DOUBLE.search(n)) or "none")
+    print("  wanted from outside:", ", ".join(names) or "nothing")
     print("  heap among them:", ", ".join(n for n in names if HEAP.search(n)) or "none")
 
 
 def link(words, path, out, keep, libraries):
+    """An image of these entries and what they call. OUT.map says what came from where."""
     roots = [f"-Wl,-u,{k}" for k in keep]
     subprocess.run(["arm-none-eabi-gcc", *words.split(), "-nostdlib", "-nostartfiles", "-Wl,--gc-sections", "-Wl,-e," + keep[0],
-                    "-Wl,--no-warn-rwx-segments,-z,noexecstack", *roots, path, *libraries, "-o", out], check=True)
+                    "-Wl,--no-warn-rwx-segments,-z,noexecstack", f"-Wl,-Map,{out}.map", *roots, path, *libraries, "-o", out], check=True)
+    return out
+
+
+def bytes_of(elf):
+    """Code and tables."""
+    return [sum(size for _, size, is_code in sections(elf) if is_code == code) for code in (True, False)]
+
+
+def from_outside(elf, library):
+    """Bytes in flash of each member of another archive than the library's."""
+    with open(elf + ".map") as f:
+        placed = f.read().partition("Linker script and memory map")[2]
+    found = collections.Counter()
+    for section, size, archive, member in MAPPED.findall(placed):
+        if re.match(r"\.(text|rodata|data)\b", section) and not os.path.samefile(archive, library) and int(size, 16):
+            found[member.replace("lib_a-", "")] += int(size, 16)
+    return found
+
+
+def doubles(elf):
+    """F64 routines with their bytes, one name for each, and the functions that have f64 instructions with how many."""
+    named = {}
+    for line in tool("nm", "-S", "--defined-only", elf).splitlines():
+        f = line.split()
+        if DOUBLE.match(f[-1]):
+            size = int(f[1], 16) if len(f) == 4 else 0
+            named.setdefault(f[0], []).append((-size, not f[-1].startswith("__aeabi"), f[-1]))
+    routines = sorted(min(names)[::2] for names in named.values())
+    instructions, here = collections.Counter(), ""
+    for line in tool("objdump", "-d", "-w", elf).splitlines():
+        head = re.match(r"[0-9a-f]+ <(.*)>:$", line)
+        here = head[1] if head else here
+        instructions[here] += bool(DOUBLE_INSTRUCTION.search(line))
+    return [f"{name} {-size}" for size, name in routines], [f"{name} {count}" for name, count in instructions.items() if count]
+
+
+def image(title, elf, library):
+    """A line on a linked image. Whether it has f64."""
+    routines, instructions = doubles(elf)
+    outside = from_outside(elf, library)
+    print(f"  {title:18} {sum(bytes_of(elf)):7} {sum(outside.values()):8}   {', '.join(routines) or 'none'}")
+    if instructions:
+        print("    f64 instructions:", ", ".join(instructions))
+    return bool(routines or instructions)
 
 
 def uleb(data, at):
@@ -160,14 +212,20 @@ def main():
     wanted(path)
     entries = sorted(set(re.findall(r" T (probe_\w+)", tool("nm", path))) - set(ONCE_MORE))
     with tempfile.TemporaryDirectory() as scratch:
-        whole, five = os.path.join(scratch, "whole"), os.path.join(scratch, "five")
-        link(words, path, whole, entries, ["-lc", "-lgcc"])
+        at = functools.partial(os.path.join, scratch)
+        board = ["-lc", "-lgcc"]
+        whole = link(words, path, at("whole"), entries, board)
+        outside = from_outside(whole, path)
+        print(f"  linked in from outside: {sum(outside.values())} bytes:", ", ".join(f"{m} {size}" for m, size in outside.most_common()))
         deepest(whole, scratch)
-        link(words, path, five, FIVE, ["-Wl,--unresolved-symbols=ignore-all"])
-        sizes = {is_code: sum(s for _, s, c in sections(five) if c == is_code) for is_code in (True, False)}
-    total = sizes[True] + sizes[False]
-    print(f"{name}: the four angle functions and the root: {sizes[True]} code + {sizes[False]} tables = {total} bytes,"
+        print(f"  {'linked image':18} {'flash':>7} {'outside':>8}   f64 routines")
+        found = [image("every entry", whole, path)]
+        found += [image(one[6:], link(words, path, at(one), [one], board), path) for one in FIVE]
+        code, tables = bytes_of(link(words, path, at("five"), FIVE, ["-Wl,--unresolved-symbols=ignore-all"]))
+    total = code + tables
+    print(f"{name}: the four angle functions and the root: {code} code + {tables} tables = {total} bytes,"
           f" {total / 1024:.2f} KiB" + (f", goal {GOAL}: {'met' if total < GOAL else 'missed by ' + str(total - GOAL)}" if "M4" in name else ""))
+    sys.exit(f"{name}: f64 in the linked image" if any(found) else 0)
 
 
 main()

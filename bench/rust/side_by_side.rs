@@ -19,6 +19,8 @@ mod ours {
         pub fn probe_longest_distance(s: *const f32, n: usize, out: &mut f32) -> u32;
         pub fn probe_walk(s: *const f32, n: usize) -> u64;
         pub fn probe_walk_feet(s: *const f32, n: usize) -> u64;
+        pub fn probe_timed_progress(es: u64, en: u32, ps: u64, pn: u32, out: &mut f32) -> u32;
+        pub fn probe_even_progress(es: u64, en: u32, ps: u64, pn: u32, out: &mut f32) -> u32;
         pub fn probe_step(s: *const f32, n: usize, t: u32, a: u32, out: *mut f32, m: usize) -> u32;
         pub fn probe_timed_step(s: *const f32, n: usize, t: u32, a: u32, es: u64, en: u32, ps: u64, pn: u32, out: *mut f32, m: usize) -> u32;
         pub fn probe_even_step(s: *const f32, n: usize, t: u32, a: u32, es: u64, en: u32, ps: u64, pn: u32, out: *mut f32, m: usize) -> u32;
@@ -114,6 +116,14 @@ mod theirs {
     #[inline(never)]
     pub fn six_walks(s: &[f32]) -> u64 {
         walk_feet(s[36], &row(s, 0), &row(s, 18)).map_or_else(|n| (n as u64) << 32, |(n, _)| n as u64)
+    }
+    #[inline(never)]
+    pub fn progress_timed(e: Time, p: Time, out: &mut f32) -> u32 {
+        stored(timed_progress(&e, &p), out)
+    }
+    #[inline(never)]
+    pub fn progress_even(e: Time, p: Time, out: &mut f32) -> u32 {
+        stored(even_progress(&e, &p), out)
     }
     fn tripod(t: u32) -> u32 {
         if t == 0 { LRL } else { RLR }
@@ -338,6 +348,27 @@ fn main() {
     );
     let time = |i: usize| Time { seconds: 0, nanoseconds: (i as u32 * 350_000) % 350_000_000 };
     let period = Time { seconds: 0, nanoseconds: 600_000_000 };
+    let elapsed: Vec<Time> = (0..INPUTS).map(|i| Time { seconds: i as u64 * 3, nanoseconds: (i as u32 * 974_563) % 1_000_000_000 }).collect();
+    both(
+        "timed progress",
+        1.3,
+        1.0,
+        |i| unsafe {
+            let e = elapsed[i];
+            kept(ours::probe_timed_progress(e.seconds, e.nanoseconds, 0, period.nanoseconds, &mut a))
+        },
+        |i| kept(theirs::progress_timed(elapsed[i], period, &mut b)),
+    );
+    both(
+        "even progress",
+        1.3,
+        1.0,
+        |i| unsafe {
+            let e = elapsed[i];
+            kept(ours::probe_even_progress(e.seconds, e.nanoseconds, 0, period.nanoseconds, &mut a))
+        },
+        |i| kept(theirs::progress_even(elapsed[i], period, &mut b)),
+    );
     both(
         "timed step",
         1.3,

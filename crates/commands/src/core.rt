@@ -36,12 +36,13 @@ pub fn rounded(n: u32) -> f32
     high * 16777216.0 + low
 }
 
-// At most 2^24, up to which f32 counts one by one.
-fn counted(seconds: u64) -> u64
+// At most 2^24, up to which f32 counts one by one. A u32 holds that: a board that has no conversion of
+// 64 bits would make one from doubles.
+fn counted(seconds: u64) -> u32
     ensures { λ r. ⌜ r ≡ counted seconds ⌝ }
 {
     if seconds < 0x100_0000 {
-        seconds
+        seconds as u32
     } else {
         0x100_0000
     }
@@ -81,7 +82,7 @@ pub fn command_permitted(c: MoveCommand) -> bool
 pub fn should_move(c: MoveCommand) -> bool
     ensures { λ r. ⌜ r ≡ shouldMove c ⌝ }
 {
-    let epsilon = 0.00000011920928955078125;
+    let epsilon: f32 = 0.00000011920928955078125;
     let rotation = numbers::core::absolute(c.rotation) < epsilon;
     let x = numbers::core::absolute(c.direction_x) < epsilon;
     let y = numbers::core::absolute(c.direction_y) < epsilon;

@@ -15,11 +15,11 @@ use lib.Ieee.Fits.{down-pos}
 use lib.Ieee.Exact.{HasValue, round-exact}
 use lib.Ieee.Back.{round-whole}
 use Rattle.numbers.specs.Door.{finite}
-use Rattle.series.specs.Fractions.{_÷_, signed, value, _≋_}
-use Rattle.series.proofs.Fractions.{same-trans}
+use Rattle.series.specs.Fractions.{Fraction, _÷_, signed, value, negative, _≋_}
+use Rattle.series.proofs.Fractions.{same-trans, negative-same}
 use Rattle.series.proofs.Parity.{difference}
 use Rattle.series.proofs.Order.{here-or-on}
-use Rattle.series.proofs.Values.{value-is}
+use Rattle.series.proofs.Values.{value-is, signed-over}
 use Rattle.units.proofs.Values.{value-over}
 use Rattle.units.proofs.Door.{finite-of}
 use Rattle.sines.specs.How.{resultOne, surplus, counted, lastPlace, centred}
@@ -59,61 +59,77 @@ divided (fin false m e) false y l h =
 divided (fin true m e) false y l h = absurd (true≢false (h .0))
 divided (fin false m e) true y l h = absurd (true≢false (sym (h .0)))
 
--- ---- centred
+-- ---- w less the surplus, as an f32
 pub not-less : (w : ℕ) → surplus ≤ w → pos w -ℤ pos surplus ≡ pos (w - surplus)
 not-less w h = simp (le-ltb w surplus h)
 
 pub less : (w : ℕ) → w < surplus → pos w -ℤ pos surplus ≡ negsuc (surplus - suc w)
 less w h = simp (lt-ltb w surplus h)
 
-pub centred-up : (w : ℕ) → surplus ≤ w → w ≤ surplus + resultOne → HasValue (centred w) false (w - surplus) resultOne
-unfolding counted ofInt
-centred-up w h k =
-    subst (λ (z : ℤ). HasValue (mul binary32 (ofInt binary32 z) (fin false 1 (negsuc 23))) false (w - surplus) resultOne)
-    (sym (not-less w h))
-    (divided (round binary32 false (w - surplus) 1) false (w - surplus) (few w k) (round-whole binary32 false (w - surplus) (few w k)))
-  where
-    few : (w : ℕ) → w ≤ surplus + resultOne → w - surplus ≤ resultOne
-    few w k = omega arith
+abbrev pub converted : ℕ → Float
+converted w = ofInt binary32 (pos w -ℤ pos surplus)
 
-pub centred-down : (w : ℕ) → w < surplus → surplus - resultOne ≤ w → HasValue (centred w) true (surplus - w) resultOne
-unfolding counted ofInt
-centred-down w h k =
-    subst (λ (z : ℤ). HasValue (mul binary32 (ofInt binary32 z) (fin false 1 (negsuc 23))) true (surplus - w) resultOne) (sym (less w h))
-    (subst (λ (y : ℕ). HasValue (mul binary32 (round binary32 true (suc (surplus - suc w)) 1) (fin false 1 (negsuc 23))) true y resultOne)
-    (same w h)
-    (divided (round binary32 true (suc (surplus - suc w)) 1) true (suc (surplus - suc w)) (few w k)
-    (round-whole binary32 true (suc (surplus - suc w)) (few w k))))
-  where
-    few : (w : ℕ) → surplus - resultOne ≤ w → suc (surplus - suc w) ≤ resultOne
-    few w k = omega arith
+few-up : (w : ℕ) → w ≤ surplus + resultOne → w - surplus ≤ resultOne
+few-up w k = omega arith
 
+few-down : (w : ℕ) → surplus - resultOne ≤ w → surplus - w ≤ resultOne
+few-down w k = omega arith
+
+pub converted-up : (w : ℕ) → surplus ≤ w → w ≤ surplus + resultOne → HasValue (converted w) false (w - surplus) 1
+unfolding ofInt
+converted-up w h k =
+    subst (λ (z : ℤ). HasValue (ofInt binary32 z) false (w - surplus) 1) (sym (not-less w h))
+    (round-whole binary32 false (w - surplus) (few-up w k))
+
+pub converted-down : (w : ℕ) → w < surplus → surplus - resultOne ≤ w → HasValue (converted w) true (surplus - w) 1
+unfolding ofInt
+converted-down w h k =
+    subst (λ (z : ℤ). HasValue (ofInt binary32 z) true (surplus - w) 1) (sym (less w h))
+    (subst (λ (y : ℕ). HasValue (round binary32 true y 1) true (surplus - w) 1) (sym (same w h))
+    (round-whole binary32 true (surplus - w) (few-down w k)))
+  where
     same : (w : ℕ) → w < surplus → suc (surplus - suc w) ≡ surplus - w
     same w h = omega arith
 
-pub centred-value : (w : ℕ) → surplus - resultOne ≤ w → w ≤ surplus + resultOne → (value (centred w) ≋ difference w surplus resultOne)
-    × T (finite (centred w))
-centred-value w l h =
+-- ---- and times the last place
+pub centred-up : (w : ℕ) → surplus ≤ w → w ≤ surplus + resultOne → HasValue (centred w) false (w - surplus) resultOne
+unfolding counted
+centred-up w h k = divided (converted w) false (w - surplus) (few-up w k) (converted-up w h k)
+
+pub centred-down : (w : ℕ) → w < surplus → surplus - resultOne ≤ w → HasValue (centred w) true (surplus - w) resultOne
+unfolding counted
+centred-down w h k = divided (converted w) true (surplus - w) (few-down w k) (converted-down w h k)
+
+-- ---- both as fractions: r is a number, exactly a
+abbrev pub Exactly : Float → Fraction → Type 0
+Exactly r a = T (finite r) × (value r ≋ a)
+
+exactly : (r : Float) (w d : ℕ) → 0 < d → (w < surplus → HasValue r true (surplus - w) d) → (surplus ≤ w → HasValue r false (w - surplus) d)
+    → Exactly r (difference w surplus d)
+exactly r w d pd down up =
     elim (here-or-on w surplus) [
-      | inl g ↦
-          let v = centred-down w g l in (
-            same-trans (value (centred w)) (signed true ((surplus - w) ÷ resultOne)) (difference w surplus resultOne) (lit< tt)
-                (value-is (centred w) true (surplus - w) resultOne v) (under w g),
-            finite-of (centred w) true (surplus - w) resultOne v,
-          )
-      | inr g ↦
-          let v = centred-up w g h in (
-            same-trans (value (centred w)) (signed false ((w - surplus) ÷ resultOne)) (difference w surplus resultOne) (lit< tt)
-                (value-is (centred w) false (w - surplus) resultOne v) (over w g),
-            finite-of (centred w) false (w - surplus) resultOne v,
-          )
+      | inl g ↦ has true (surplus - w) (down g) (under w (surplus - w) (omega arith))
+      | inr g ↦ has false (w - surplus) (up g) (over w (w - surplus) (omega arith))
     ]
   where
-    under : (w : ℕ) → w < surplus → 0 * resultOne + surplus * resultOne ≡ w * resultOne + (surplus - w) * resultOne
-    under w g = omega arith
+    has : (s : Bool) (y : ℕ) → HasValue r s y d → signed s (y ÷ d) ≋ difference w surplus d → Exactly r (difference w surplus d)
+    has s y v e = (
+      finite-of r s y d v,
+      same-trans (value r) (signed s (y ÷ d)) (difference w surplus d) (signed-over s (y ÷ d) pd) (value-is r s y d v) e,
+    )
 
-    over : (w : ℕ) → surplus ≤ w → (w - surplus) * resultOne + surplus * resultOne ≡ w * resultOne + 0 * resultOne
-    over w g = omega arith
+    under : (w y : ℕ) → w + y ≡ surplus → 0 * d + surplus * d ≡ w * d + y * d
+    under w y e = subst (λ (n : ℕ). 0 * d + n * d ≡ w * d + y * d) e (omega arith)
+
+    over : (w y : ℕ) → surplus + y ≡ w → y * d + surplus * d ≡ w * d + 0 * d
+    over w y e = subst (λ (n : ℕ). y * d + surplus * d ≡ n * d + 0 * d) e (omega arith)
+
+module _ (w : ℕ) (l : surplus - resultOne ≤ w) (h : w ≤ surplus + resultOne) where
+  pub converted-exactly : Exactly (converted w) (difference w surplus 1)
+  converted-exactly = exactly (converted w) w 1 (lit< tt) (λ g. converted-down w g l) (λ g. converted-up w g h)
+
+  pub centred-exactly : Exactly (centred w) (difference w surplus resultOne)
+  centred-exactly = exactly (centred w) w resultOne (lit< tt) (λ g. centred-down w g l) (λ g. centred-up w g h)
 
 -- ---- a negative unit turns the sign
 turned-odd : (d : ℕ) (s : Bool) (q k l : ℕ) → odd d (not s) q k l ≡ neg (odd d s q k l)
@@ -149,3 +165,24 @@ pub counted-turned : (s : Bool) (w : ℕ) → counted (lastPlace s) w ≡ cond s
 unfolding counted
 counted-turned true w = turned-mul (ofInt binary32 (pos w -ℤ pos surplus))
 counted-turned false w = refl
+
+-- ---- either sign
+value-neg : (z : Float) → value (neg z) ≡ negative (value z)
+unfolding neg
+value-neg nan = refl
+value-neg (inf s) = refl
+value-neg (fin true m e) = refl
+value-neg (fin false m e) = refl
+
+finite-neg : (z : Float) → T (finite z) → T (finite (neg z))
+unfolding neg finite
+finite-neg nan h = h
+finite-neg (inf s) h = h
+finite-neg (fin s m e) h = tt
+
+pub turned-exactly : (s : Bool) (z : Float) (a : Fraction) → Exactly z a → Exactly (cond s (neg z) z) (signed s a)
+turned-exactly true z a h = (
+  finite-neg z (h .0),
+  subst (λ (f : Fraction). f ≋ negative a) (sym (value-neg z)) (negative-same (value z) a (h .1)),
+)
+turned-exactly false z a h = h

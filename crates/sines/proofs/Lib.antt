@@ -1,9 +1,10 @@
 mod Values
-mod Centred
+pub mod Centred
 mod Small
 mod Rest
 pub mod Entries
 mod Turn
 mod Whole
+pub mod Unrounded
 pub mod Sharp
 pub mod Bands

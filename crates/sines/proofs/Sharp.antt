@@ -29,7 +29,7 @@ use Rattle.series.proofs.Addition.{fsp, fsm, fcp, fcm, FD}
 use Rattle.sines.specs.How.{sixteen, resultOne, surplus, tinyBits, fixed, fixedSine, fixedCosine, centred}
 use Rattle.sines.specs.How.{insideSine, insideCosine, sine, cosine}
 use Rattle.sines.proofs.Values.{tiny-units, fixed-units, fixed-le, argument-value, most-bits}
-use Rattle.sines.proofs.Centred.{centred-value}
+use Rattle.sines.proofs.Centred.{centred-exactly, turned-exactly}
 use Rattle.sines.proofs.Small.{sine-small, cosine-small}
 use Rattle.sines.proofs.Whole.{Result, sine-result, cosine-result}
 
@@ -77,27 +77,6 @@ sine-signed false a y w = w
 cosine-signed : (s : Bool) (a y : Fraction) → Within sharp a (C y) → Within sharp a (C (signed s y))
 cosine-signed true a y w = subst (λ (f : Fraction). Within sharp a f) (sym (C-even y)) w
 cosine-signed false a y w = w
-
-value-neg : (z : Float) → value (neg z) ≡ negative (value z)
-unfolding neg
-value-neg nan = refl
-value-neg (inf s) = refl
-value-neg (fin true m e) = refl
-value-neg (fin false m e) = refl
-
-finite-neg : (z : Float) → T (finite z) → T (finite (neg z))
-unfolding neg finite
-finite-neg nan h = h
-finite-neg (inf s) h = h
-finite-neg (fin s m e) h = tt
-
-turned-value : (s : Bool) (z : Float) (a : Fraction) → value z ≋ a → value (cond s (neg z) z) ≋ signed s a
-turned-value true z a h = subst (λ (f : Fraction). f ≋ negative a) (sym (value-neg z)) (negative-same (value z) a h)
-turned-value false z a h = h
-
-turned-finite : (s : Bool) (z : Float) → T (finite z) → T (finite (cond s (neg z) z))
-turned-finite true z h = finite-neg z h
-turned-finite false z h = h
 
 -- ---- from the fractions to the f32s
 module _ (s : Bool) (x r : Float) (a y : Fraction) (pa : 0 < a .over) (py : 0 < y .over) (hx : value x ≋ signed s y) where
@@ -206,16 +185,15 @@ module _ (x : Float) (f : T (fits binary32 x)) (p : T (permits sineArgument x)) 
             let n = fixed m in
             let w = fixedSine n in
             let r = sine-result n (n-le h) in
-            let c = centred-value w (r .least) (r .most) in
-            let e = turned-value s (centred w) (result w) (c .0) in
+            let c = turned-exactly s (centred w) (result w) (centred-exactly w (r .least) (r .most)) in
             let y = cond s (neg (centred w)) (centred w) in
             let b = few w (r .least) (r .most) in
             subst (Good S x) (sine-else x h) (record {
-              is-number = turned-finite s (centred w) (c .1);
+              is-number = c .0;
               within =
-                  sine-from s x y (result w) (argument n) (lit< tt) (lit< tt) (in-fixed h) e
+                  sine-from s x y (result w) (argument n) (lit< tt) (lit< tt) (in-fixed h) (c .1)
                   (fixed-within S n w (fsp n) (fsm n) (S-is n (2 ^ 35) (lit< tt)) r);
-              to-one = bounded s w surplus resultOne y (lit< tt) (b .0) (b .1) e;
+              to-one = bounded s w surplus resultOne y (lit< tt) (b .0) (b .1) (c .1);
             })
       ]
 
@@ -235,14 +213,14 @@ module _ (x : Float) (f : T (fits binary32 x)) (p : T (permits sineArgument x)) 
             let n = fixed m in
             let w = fixedCosine n in
             let r = cosine-result n (n-le h) in
-            let c = centred-value w (r .least) (r .most) in
+            let c = centred-exactly w (r .least) (r .most) in
             let b = few w (r .least) (r .most) in
             subst (Good C x) (cosine-else x h) (record {
-              is-number = c .1;
+              is-number = c .0;
               within =
-                  cosine-from s x (centred w) (result w) (argument n) (lit< tt) (lit< tt) (in-fixed h) (c .0)
+                  cosine-from s x (centred w) (result w) (argument n) (lit< tt) (lit< tt) (in-fixed h) (c .1)
                   (fixed-within C n w (fcp n) (fcm n) (C-is n (2 ^ 35) (lit< tt)) r);
-              to-one = bounded false w surplus resultOne (centred w) (lit< tt) (b .0) (b .1) (c .0);
+              to-one = bounded false w surplus resultOne (centred w) (lit< tt) (b .0) (b .1) (c .1);
             })
       ]
 
