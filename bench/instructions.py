@@ -1,38 +1,43 @@
 #!/usr/bin/env python3
-"""instructions.py FOLDER: instructions a call of every entry, ours and the plain Rust reading's, counted by callgrind in FOLDER's
-`side_by_side`. The last line has the sum over the entries of both sides, and their ratio."""
+"""instructions.py FOLDER [OPERATION ..]: instructions a call of every operation of FOLDER's `side_by_side`, or of those named, ours and the
+plain Rust reading's; of a walk the whole walk. Callgrind counts the program with one operation and one side over 1 round and over 3:
+what they differ by is that of two rounds. It is not asked who called whom, which it gets wrong on Arm. The last line has the sums of
+both sides, and their ratio."""
 import re
 import subprocess
 import sys
 
-OUT = sys.argv[1]
-PAIRS = [
-    ("square root", "probe_square_root", "root"), ("sine", "probe_sine", "sin"), ("cosine", "probe_cosine", "cos"),
-    ("arc cosine", "probe_arc_cosine", "acos"), ("atan2", "probe_atan2", "angle"), ("one move", "probe_move", "one_move"),
-    ("six moves", "probe_move_feet", "six_moves"), ("longest distance", "probe_longest_distance", "longest"),
-    ("a walk", "probe_walk", "one_walk"), ("six walks", "probe_walk_feet", "six_walks"),
-    ("timed progress", "probe_timed_progress", "progress_timed"), ("even progress", "probe_even_progress", "progress_even"),
-    ("step by distance", "probe_step", "by_distance"), ("timed step", "probe_timed_step", "timed"),
-    ("even step", "probe_even_step", "even"), ("planner", "probe_plan", "planned"),
-    ("inverse kinematics", "probe_ik", "ik"), ("forward kinematics", "probe_fk", "fk"),
-]
+PROGRAM = sys.argv[1] + "/side_by_side"
+INPUTS = 1024  # calls in a round, as in side_by_side.rs
+ROUNDS = (1, 3)
+# One call a round.
+LEFT_OUT = ["the longest walk, each step"]
 
 
 def run(*words):
-    return subprocess.run(words, check=True, capture_output=True, text=True).stdout
+    return subprocess.run(words, check=True, capture_output=True, text=True)
 
 
-run("valgrind", "--tool=callgrind", f"--callgrind-out-file={OUT}/callgrind", OUT + "/side_by_side", "1")
-costs = {}
-for line in run("callgrind_annotate", "--inclusive=yes", OUT + "/callgrind").splitlines():
-    found = re.match(r"\s*([\d,]+) .*=> .*[:](probe_\w+|\w+) \(([\d,]+)x\)", line)
-    if found:
-        cost, calls = (int(found.group(i).replace(",", "")) for i in (1, 3))
-        costs[found.group(2)] = cost / calls
-print(f"{'operation':20} {'ours':>9} {'Rust':>9} {'ratio':>6}")
+def operations():
+    """As the program lists them: a name of 27 places, then numbers."""
+    names = [line[:27].strip() for line in run(PROGRAM, "1").stdout.splitlines()[1:]]
+    return [name for name in names if name not in LEFT_OUT]
+
+
+def count(*words):
+    said = run("valgrind", "--tool=callgrind", "--callgrind-out-file=/dev/null", PROGRAM, *words).stderr
+    return int(re.search(r"Collected : (\d+)", said).group(1))
+
+
+def a_call(name, side):
+    less, more = (count(str(rounds), name, side) for rounds in ROUNDS)
+    return (more - less) / (ROUNDS[1] - ROUNDS[0]) / INPUTS
+
+
+print(f"{'operation':27} {'ours':>9} {'Rust':>9} {'ratio':>6}")
 sums = [0, 0]
-for name, ours, theirs in PAIRS:
-    pair = costs[ours], costs[theirs]
+for name in sys.argv[2:] or operations():
+    pair = [a_call(name, side) for side in ("ours", "Rust")]
     sums = [s + c for s, c in zip(sums, pair)]
-    print(f"{name:20} {pair[0]:9.0f} {pair[1]:9.0f} {pair[0] / pair[1]:6.2f}")
+    print(f"{name:27} {pair[0]:9.1f} {pair[1]:9.1f} {pair[0] / pair[1]:6.2f}", flush=True)
 print(f"instructions of one call each: {sums[0]:.0f} ours, {sums[1]:.0f} Rust's, ratio {sums[0] / sums[1]:.2f}")

@@ -1,7 +1,7 @@
 // Times the proved library and the plain Rust reading side by side: same inputs, same run, one thread.
 // Both sides have the same shape at the boundary: a call that is not inlined, numbers and rows of floats in, a stored
 // answer out, every number looked at. A line an operation: nanoseconds of ours, of Rust's, the ratio, the goal. The first word
-// is the number of rounds, the second, for a profile, the one operation to run.
+// is the number of rounds, the second, for a profile or a count, the one operation to run, the third the one side: ours or Rust.
 mod reference;
 use reference::*;
 use std::hint::black_box;
@@ -211,24 +211,33 @@ impl Random {
 
 const INPUTS: usize = 1024;
 
+/// One round over all inputs, in nanoseconds a call.
+fn timed(call: &mut impl FnMut(usize)) -> f64 {
+    let t = Instant::now();
+    for i in 0..INPUTS {
+        call(i);
+    }
+    t.elapsed().as_nanos() as f64 / INPUTS as f64
+}
+
 /// The best of several rounds over all inputs, ours and theirs by turns, in nanoseconds a call.
 fn both(name: &str, goal: f64, each: f64, mut ours: impl FnMut(usize), mut theirs: impl FnMut(usize)) {
     let rounds = std::env::args().nth(1).and_then(|s| s.parse().ok()).unwrap_or(60);
     if std::env::args().nth(2).is_some_and(|only| only != name) {
         return;
     }
+    let side = std::env::args().nth(3).unwrap_or_default();
     let (mut a, mut b) = (f64::MAX, f64::MAX);
     for _ in 0..rounds {
-        let t = Instant::now();
-        for i in 0..INPUTS {
-            ours(i);
+        if side != "Rust" {
+            a = a.min(timed(&mut ours));
         }
-        a = a.min(t.elapsed().as_nanos() as f64 / INPUTS as f64);
-        let t = Instant::now();
-        for i in 0..INPUTS {
-            theirs(i);
+        if side != "ours" {
+            b = b.min(timed(&mut theirs));
         }
-        b = b.min(t.elapsed().as_nanos() as f64 / INPUTS as f64);
+    }
+    if !side.is_empty() {
+        return;
     }
     let ratio = a / b;
     println!("{name:27} {:9.2} {:9.2} {ratio:7.2} {goal:6.1}{}", a / each, b / each, if ratio <= goal { "" } else { "  missed" });
