@@ -3,3 +3,4 @@ pub mod OneAnswer
 pub mod Constants
 pub mod OnePass
 pub mod Uncapped
+mod Examples

@@ -10,7 +10,7 @@ use borrow.Author.Tests.{lt-ltb, le-ltb}
 use lib.Dec.{T, lit<, lit≤}
 use lib.Pow.{pow-pos}
 use lib.IntN.{pos}
-use lib.Ieee.{Float, nan, inf, fin, binary32, fits, neg, toBits}
+use lib.Ieee.{Float, fin, binary32, fits, neg, toBits}
 use lib.Ieee.Bits.{is-true}
 use Rattle.numbers.specs.Door.{finite, permits}
 use Rattle.numbers.specs.Limits.{sineArgument}
@@ -20,7 +20,7 @@ use Rattle.units.proofs.Door.{finite-of}
 use Rattle.series.specs.Fractions.{Fraction, _÷_, whole, signed, value, negative, _≋_, _≼_, Within}
 use Rattle.series.specs.Series.{S, C}
 use Rattle.series.specs.Working.{denominator}
-use Rattle.series.proofs.Fractions.{same-sym, same-trans, negative-same, le-same, within-same, within-negative}
+use Rattle.series.proofs.Fractions.{same-sym, same-trans, le-same, within-same, within-negative}
 use Rattle.series.proofs.Values.{value-is, signed-over, signed-same}
 use Rattle.series.proofs.Literal.{S-is, C-is, denominator-pos}
 use Rattle.series.proofs.Parity.{difference, S-odd, C-even, S-same, C-same, S-over, C-over}
