@@ -34,9 +34,13 @@ def a_call(name, side):
     return (more - less) / (ROUNDS[1] - ROUNDS[0]) / INPUTS
 
 
+known = operations()
+for name in sys.argv[2:]:
+    if name not in known:
+        sys.exit(f"instructions: there is no operation '{name}'; there are: {'; '.join(known)}")
 print(f"{'operation':27} {'ours':>9} {'Rust':>9} {'ratio':>6}")
 sums = [0, 0]
-for name in sys.argv[2:] or operations():
+for name in sys.argv[2:] or known:
     pair = [a_call(name, side) for side in ("ours", "Rust")]
     sums = [s + c for s, c in zip(sums, pair)]
     print(f"{name:27} {pair[0]:9.1f} {pair[1]:9.1f} {pair[0] / pair[1]:6.2f}", flush=True)
