@@ -1,67 +1,96 @@
--- The source's vector move takes its distance from target to last. On every permitted input that is the distance from last to target, so it
--- told what the point's move tells, refused or not.
-use mathlib.Core.Path.{_≡_, refl, ap, ap₂, _∙_, subst}
-use mathlib.Core.Bool.{Bool, true, false}
-use Prim.Native.Nat.{ℕ, _+_}
-use native.Mathlib.Nat.{add-comm}
-use lib.Dec.{T, eqb}
-use lib.Ieee.{Float}
-use lib.Ieee.Exact.{HasValue}
-use Rattle.numbers.specs.Told.{Told, answer}
-use Rattle.numbers.specs.Limits.{footLimit, maxMove}
-use Rattle.units.specs.Units.{unity, hi, lo}
-use Rattle.units.proofs.Patterns.{one-value}
+-- The source has a move for vectors too, which takes its distance from target to last. It told what the point's move tells, of any input,
+-- refused or not: the square of a difference is the same float the other way round. That holds of NaN and infinities as well, so nothing
+-- is assumed.
+use mathlib.Core.Path.{_≡_, refl, sym, ap, ap₂, _∙_}
+use mathlib.Core.Bool.{Bool, true, false, not, _&&_, cond, Bool·beq}
+use Prim.Native.Nat.{ℕ, _+_, _-_, _*_, _≤_, _<_}
+use native.Mathlib.Nat.{add-comm, mul-comm}
+use native.Mathlib.Omega.{arith}
+use borrow.Author.Tests.{ltb-true, ltb-false}
+use lib.Dec.{ltb}
+use lib.Ieee.{Float, nan, inf, fin, binary32, up, down, neg, round, sum, add, sub, mul}
+use Rattle.numbers.specs.Told.{answer}
+use Rattle.units.specs.Units.{gap}
+use Rattle.units.proofs.OtherSign.{turned-round}
 use Rattle.roots.specs.Root.{squareRoot}
-use Rattle.legs.specs.Legs.{finitePoint, permittedPoint}
 use Rattle.legs.specs.declared.Point.{Point}
-use Rattle.moves.specs.Distance.{Each, squareSum, distance}
+use Rattle.moves.specs.Distance.{square, apart², squareSum, distance}
 use Rattle.moves.specs.Moving.{stepAt, moveTowards, moveVectorTowards}
 use Rattle.moves.specs.Answers.{toldStep}
 use Rattle.moves.specs.Refusals.{moveRefusal}
 use Rattle.moves.specs.Entries.{moveTold, moveVectorTold}
-use Rattle.moves.proofs.Refusals.{passed}
-use Rattle.moves.proofs.Squares.{Fit, Near, near, diff, size, all, square-sum-value}
-use Rattle.moves.proofs.Largest.{square-sum-rootable}
-use borrow.Author.Tests.{eqb-true}
+
+-- ---- a square does not show the sign
+square-neg : (x : Float) → square (neg x) ≡ square x
+unfolding mul neg
+square-neg nan = refl
+square-neg (inf true) = refl
+square-neg (inf false) = refl
+square-neg (fin true m e) = refl
+square-neg (fin false m e) = refl
+
+square-round : (s : Bool) (a c : ℕ) → square (round binary32 s a c) ≡ square (round binary32 false a c)
+square-round true a c = ap square (turned-round binary32 false a c) ∙ square-neg (round binary32 false a c)
+square-round false a c = refl
+
+-- of two numbers with their signs: the sum where the signs are alike, else the difference
+abbrev joined : Bool → ℕ → Bool → ℕ → ℕ
+joined s a t b = cond (Bool·beq s t) (a + b) (gap a b)
+
+square-sum : (s : Bool) (a : ℕ) (t : Bool) (b c : ℕ) → square (sum binary32 s a t b c) ≡ square (round binary32 false (joined s a t b) c)
+unfolding sum
+square-sum s a t b c = by-tests (Bool·beq s t) (ltb a b) refl
+  where
+    less : a < b → b - a ≡ gap a b
+    less h = omega arith
+
+    not-less : b ≤ a → a - b ≡ gap a b
+    not-less h = omega arith
+
+    by-tests : (p q : Bool) → ltb a b ≡ q
+        → square (cond p (round binary32 s (a + b) c) (cond q (round binary32 t (b - a) c) (round binary32 (s && ltb b a) (a - b) c)))
+        ≡ square (round binary32 false (cond p (a + b) (gap a b)) c)
+    by-tests true q e = square-round s (a + b) c
+    by-tests false true e = square-round t (b - a) c ∙ ap (λ (n : ℕ). square (round binary32 false n c)) (less (ltb-true a b e))
+    by-tests false false e =
+        square-round (s && ltb b a) (a - b) c ∙ ap (λ (n : ℕ). square (round binary32 false n c)) (not-less (ltb-false a b e))
 
 -- ---- the way back is as long
-size-back : (t l : Float) → size l t ≡ size t l
-size-back t l =
-    ap₂ (λ (a b : ℕ). diff a b + diff b a) (add-comm (hi l) (lo t)) (add-comm (lo l) (hi t))
-    ∙ add-comm (diff (lo t + hi l) (hi t + lo l)) (diff (hi t + lo l) (lo t + hi l))
+joined-back : (s : Bool) (a : ℕ) (t : Bool) (b : ℕ) → joined s a (not t) b ≡ joined t b (not s) a
+joined-back true a true b = add-comm (a - b) (b - a)
+joined-back true a false b = add-comm a b
+joined-back false a true b = add-comm a b
+joined-back false a false b = add-comm (a - b) (b - a)
 
-sum-back : (l t : Point) → Near l t → Near t l → squareSum t l ≡ squareSum l t
-sum-back l t n o =
-    one-value (squareSum t l) (squareSum l t) false (units t l) (square-sum-rootable t l .held) (square-sum-rootable l t .held)
-    (subst (λ (a : ℕ). HasValue (squareSum t l) false a unity) units-back (square-sum-value t l o)) (square-sum-value l t n)
-  where
-    units : Point → Point → ℕ
-    units a b = all (size (a .x) (b .x)) (size (a .y) (b .y)) (size (a .z) (b .z))
+square-back : (x y : Float) → apart² y x ≡ apart² x y
+unfolding sub add neg mul
+square-back nan nan = refl
+square-back nan (inf t) = refl
+square-back nan (fin t n d) = refl
+square-back (inf s) nan = refl
+square-back (inf true) (inf true) = refl
+square-back (inf true) (inf false) = refl
+square-back (inf false) (inf true) = refl
+square-back (inf false) (inf false) = refl
+square-back (inf true) (fin t n d) = refl
+square-back (inf false) (fin t n d) = refl
+square-back (fin s m e) nan = refl
+square-back (fin s m e) (inf true) = refl
+square-back (fin s m e) (inf false) = refl
+square-back (fin s m e) (fin t n d) =
+    let a = m * up e * down d in
+    let b = n * up d * down e in
+    square-sum s a (not t) b (down e * down d)
+    ∙ ap₂ (λ (k c : ℕ). square (round binary32 false k c)) (joined-back s a t b) (mul-comm (down e) (down d))
+    ∙ sym (square-sum t b (not s) a (down d * down e))
 
-    units-back : units l t ≡ units t l
-    units-back =
-        ap (λ (a : ℕ). all a (size (l .y) (t .y)) (size (l .z) (t .z))) (size-back (t .x) (l .x))
-        ∙ ap₂ (λ (b c : ℕ). all (size (t .x) (l .x)) b c) (size-back (t .y) (l .y)) (size-back (t .z) (l .z))
-
-pub distance-back : (l t : Point) → Each Fit l → Each Fit t → T (permittedPoint footLimit l) → T (permittedPoint footLimit t)
-    → distance t l ≡ distance l t
-unfolding distance
-distance-back l t Fl Ft p q = ap squareRoot (sum-back l t (near l t Fl Ft p q) (near t l Ft Fl q p))
+pub distance-back : (l t : Point) → distance t l ≡ distance l t
+unfolding distance squareSum
+distance-back l t =
+    ap squareRoot
+    (ap₂ (add binary32) (ap₂ (add binary32) (square-back (l .x) (t .x)) (square-back (l .y) (t .y))) (square-back (l .z) (t .z)))
 
 -- ---- so both moves told the same
-told-same : {A : Type 0} (tell : A → Told) (n : ℕ) (s r : A) → (n ≡ 0 → s ≡ r) → answer n (tell s) ≡ answer n (tell r)
-told-same {A} tell n s r h = by-test (eqb n 0) refl
-  where
-    by-test : (b : Bool) → eqb n 0 ≡ b → answer n (tell s) ≡ answer n (tell r)
-    by-test true e = ap (λ (a : A). answer n (tell a)) (h (eqb-true n 0 e))
-    by-test false e = simp e
-
-pub vector-move-was-the-same : (l t : Point) (m : Float) → Each Fit l → Each Fit t → moveVectorTold l t m ≡ moveTold l t m
-unfolding moveVectorTold moveTold moveVectorTowards moveTowards moveRefusal
-vector-move-was-the-same l t m Fl Ft =
-    told-same toldStep (moveRefusal l t m) (stepAt (distance t l) l t m) (stepAt (distance l t) l t m) same-step
-  where
-    same-step : moveRefusal l t m ≡ 0 → stepAt (distance t l) l t m ≡ stepAt (distance l t) l t m
-    same-step e =
-        let p = passed finitePoint (permittedPoint footLimit) maxMove l t m e in
-        ap (λ (d : Float). stepAt d l t m) (distance-back l t Fl Ft (p .last) (p .target))
+pub vector-move-was-the-same : (l t : Point) (m : Float) → moveVectorTold l t m ≡ moveTold l t m
+unfolding moveVectorTold moveTold moveVectorTowards moveTowards
+vector-move-was-the-same l t m = ap (λ (d : Float). answer (moveRefusal l t m) (toldStep (stepAt d l t m))) (distance-back l t)

@@ -147,7 +147,7 @@ module _ (a b : Point) (Fa : Each Fit a) (Fb : Each Fit b) (pa : T (permittedPoi
       let q = permitted-parts footLimit 0 (4 * unity) (4 * unity) 0 foot-ends (4 * unity) (lit≤ tt) (lit≤ tt) y G k in
       eighteen (hi x) (lo x) (hi y) (lo y) unity (p .0) (p .1) (q .0) (q .1)
 
-  pub near : Near a b
+  near : Near a b
   near =
       let p = each-permitted footLimit a pa in
       let q = each-permitted footLimit b pb in

@@ -1,16 +1,16 @@
 -- `centred w` is exactly (w - 5 * 2 ^ 22) / 2 ^ 24: neither the conversion nor the product rounds. Assumes nothing.
 use mathlib.Core.Path.{_≡_, refl, sym, ap, _∙_, subst}
 use mathlib.Core.Logic.{inl, inr}
-use mathlib.Core.Bool.{Bool, true, false, not, cond, true≢false}
-use Prim.Native.Nat.{ℕ, zero, suc, _+_, _-_, _*_, _^_, _≤_, _<_}
+use mathlib.Core.Bool.{Bool, true, false, cond, true≢false}
+use Prim.Native.Nat.{ℕ, suc, _+_, _-_, _*_, _^_, _≤_, _<_}
 use native.Mathlib.Nat.{mul-assoc, mul-comm, mul-right-comm}
 use native.Mathlib.Nat.{mul-pos, eq-of-mul-eq-mul-right, lt-of-lt-of-le, eq-or-lt-of-le}
 use native.Mathlib.Omega.{arith}
 use borrow.Author.Tests.{lt-ltb, le-ltb}
-use lib.Dec.{T, ltb, lit<, lit≤}
+use lib.Dec.{T, lit<, lit≤}
 use lib.Pow.{shl-lt}
 use lib.IntN.{ℤ, pos, negsuc, _-ℤ_}
-use lib.Ieee.{Float, Format, nan, inf, fin, binary32, up, down, low, prec, emax, mul, neg, round, units, odd, ofInt}
+use lib.Ieee.{Float, nan, inf, fin, binary32, up, down, mul, neg, round, ofInt}
 use lib.Ieee.Fits.{down-pos}
 use lib.Ieee.Exact.{HasValue, round-exact}
 use lib.Ieee.Back.{round-whole}
@@ -21,6 +21,7 @@ use Rattle.series.proofs.Parity.{difference}
 use Rattle.series.proofs.Order.{here-or-on}
 use Rattle.series.proofs.Values.{value-is, signed-over}
 use Rattle.units.proofs.Values.{value-over}
+use Rattle.units.proofs.OtherSign.{turned-round}
 use Rattle.units.proofs.Door.{finite-of}
 use Rattle.sines.specs.How.{resultOne, surplus, counted, lastPlace, centred}
 
@@ -132,27 +133,6 @@ module _ (w : ℕ) (l : surplus - resultOne ≤ w) (h : w ≤ surplus + resultOn
   centred-exactly = exactly (centred w) w resultOne (lit< tt) (λ g. centred-down w g l) (λ g. centred-up w g h)
 
 -- ---- a negative unit turns the sign
-turned-odd : (d : ℕ) (s : Bool) (q k l : ℕ) → odd d (not s) q k l ≡ neg (odd d s q k l)
-unfolding odd neg
-turned-odd d s zero k l = refl
-turned-odd d s (suc q) k l = refl
-
--- a number or an infinity
-turned-cond : (b s : Bool) (x y : Float) → x ≡ neg y → cond b x (inf (not s)) ≡ neg (cond b y (inf s))
-unfolding neg
-turned-cond true s x y e = e
-turned-cond false s x y e = refl
-
-turned-units : (f : Format) (s : Bool) (q k : ℕ) → units f (not s) q k ≡ neg (units f s q k)
-unfolding units
-turned-units f s q k =
-    turned-cond (ltb (q * 2 ^ k) (2 ^ (low f + suc (emax f)))) s (odd (suc (prec f)) (not s) q k (low f)) (odd (suc (prec f)) s q k (low f))
-    (turned-odd (suc (prec f)) s q k (low f))
-
-turned-round : (f : Format) (s : Bool) (num den : ℕ) → round f (not s) num den ≡ neg (round f s num den)
-unfolding round
-turned-round f s num den = turned-units f s _ _
-
 turned-mul : (v : Float) → mul binary32 v (lastPlace true) ≡ neg (mul binary32 v (lastPlace false))
 unfolding mul neg
 turned-mul nan = refl

@@ -1,6 +1,7 @@
 pub mod Whole
 mod Half
 pub mod Grid
+pub mod OtherSign
 pub mod Values
 pub mod Add
 pub mod Multiply
