@@ -17,7 +17,7 @@ ROOM = {
     "absolute": "numbers", "min": "numbers", "max": "numbers", "pattern": "numbers", "square_root": "roots",
     "sine": "sines", "cosine": "sines", "arc_cosine": "arcs", "atan2": "arcs", "merge": "legs", "select": "legs",
     "as_legs": "legs", "from_legs": "legs",
-    "update": "rows", "move": "moves", "move_vector": "moves", "move_feet": "moves", "point_iter": "moves",
+    "update": "rows", "move": "moves", "move_feet": "moves", "point_iter": "moves",
     "next_point": "moves", "feet_iter": "moves", "next_feet": "moves", "longest_distance": "moves", "walk": "walks",
     "walk_feet": "walks", "invert": "commands", "flag": "commands", "default": "commands", "new": "commands",
     "command": "commands", "should_move": "commands", "plan": "planner", "ik": "joints", "fk": "joints",

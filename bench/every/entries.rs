@@ -14,7 +14,6 @@ extern "C" {
     fn probe_select(s: *const f32, n: usize, mask: u32, out: *mut f32, m: usize, len: &mut usize) -> u32;
     fn probe_update(s: *const f32, n: usize, values: *const f32, v: usize, count: usize, mask: u32, out: *mut f32, m: usize) -> u32;
     fn probe_move(s: *const f32, n: usize, out: *mut f32, m: usize) -> u32;
-    fn probe_move_vector(s: *const f32, n: usize, out: *mut f32, m: usize) -> u32;
     fn probe_point_iter(s: *const f32, n: usize, out: *mut f32, m: usize, max_move: &mut f32) -> u32;
     fn probe_next_point(s: *const f32, n: usize, point: *mut f32, k: usize, out: *mut f32, m: usize, max_move: &mut f32) -> u32;
     fn probe_move_feet(s: *const f32, n: usize, out: *mut f32, m: usize) -> u32;
@@ -199,24 +198,15 @@ fn update(i: &Input, want: u32, _: &mut Worst) -> bool {
     n == want && if want == 0 { is_at(&out, &updated(i.feet(0), &i.feet(18), i.mask)) } else { held(&out) }
 }
 
-fn one_move(i: &Input, n: u32, want: u32, out: &[f32]) -> bool {
-    if want != 0 {
-        return n == want && held(out);
-    }
-    let (p, moved) = towards(i.point(0), i.point(3), i.f[6]);
-    n == 256 * moved as u32 && same(out, &p)
-}
-
-fn move_point(i: &Input, want: u32, _: &mut Worst) -> bool {
+/// The one move, against both of the source's.
+fn one_move(i: &Input, want: u32, _: &mut Worst) -> bool {
     let mut out = [HELD; 3];
     let n = unsafe { probe_move(i.at(0), 7, out.as_mut_ptr(), 3) };
-    one_move(i, n, want, &out)
-}
-
-fn move_vector(i: &Input, want: u32, _: &mut Worst) -> bool {
-    let mut out = [HELD; 3];
-    let n = unsafe { probe_move_vector(i.at(0), 7, out.as_mut_ptr(), 3) };
-    one_move(i, n, want, &out)
+    if want != 0 {
+        return n == want && held(&out);
+    }
+    let both = [towards, vector_towards].map(|go| go(i.point(0), i.point(3), i.f[6]));
+    both.iter().all(|(p, moved)| n == 256 * *moved as u32 && same(&out, p))
 }
 
 /// The rows of a move of N - 1 coordinates.
@@ -638,8 +628,7 @@ pub fn entries() -> Vec<Entry> {
         entry("merge", of(&[(36, FOOT)]), mask, false, rows, merge),
         entry("select", of(&[(18, FOOT)]), mask, false, &[], select),
         entry("update", of(&[(210, FOOT)]), Takes { count: true, ..mask }, false, &[], update),
-        entry("one move", one(), none, false, pair, move_point),
-        entry("vector move", one(), none, false, pair, move_vector),
+        entry("one move", one(), none, false, pair, one_move),
         entry("point sets out", one(), none, false, pair, point_iter),
         entry("next point", one(), none, false, pair, next_point),
         entry("longest distance", of(&[(36, FOOT)]), none, false, rows, longest_distance),

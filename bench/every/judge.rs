@@ -94,17 +94,25 @@ pub fn distance(a: Point, b: Point) -> f32 {
     (d[0] * d[0] + d[1] * d[1] + d[2] * d[2]).sqrt()
 }
 
-/// The new point and whether it moved.
-pub fn towards(last: Point, target: Point, max_move: f32) -> (Point, bool) {
+/// The new point, d away from its target, and whether it moved.
+fn moved_by(d: f32, last: Point, target: Point, max_move: f32) -> (Point, bool) {
     if (0..3).all(|k| last[k] == target[k]) {
         return (target, false);
     }
-    let d = distance(last, target);
     if d <= max_move {
         (target, true)
     } else {
         (std::array::from_fn(|k| last[k] + ((target[k] - last[k]) / d) * max_move), true)
     }
+}
+
+pub fn towards(last: Point, target: Point, max_move: f32) -> (Point, bool) {
+    moved_by(distance(last, target), last, target, max_move)
+}
+
+/// The source's move of a vector: its distance is that of the way back.
+pub fn vector_towards(last: Point, target: Point, max_move: f32) -> (Point, bool) {
+    moved_by(distance(target, last), last, target, max_move)
 }
 
 pub fn feet_towards(last: Feet, target: Feet, max_move: f32) -> (Feet, bool) {

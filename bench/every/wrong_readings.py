@@ -20,6 +20,7 @@ WRONG = [
     ("arrival only below max move", "judge.rs", "if d <= max_move", "if d < max_move"),
     ("arrival by bits", "judge.rs", "last[k] == target[k])", "last[k].to_bits() == target[k].to_bits())"),
     ("squares summed backwards", "judge.rs", "(d[0] * d[0] + d[1] * d[1] + d[2] * d[2]).sqrt()", "(d[2] * d[2] + d[1] * d[1] + d[0] * d[0]).sqrt()"),
+    ("a vector goes the other way", "judge.rs", "moved_by(distance(target, last), last, target", "moved_by(distance(target, last), target, last"),
     ("EPSILON itself is no move", "entries.rs", "x.abs() >= f32::EPSILON", "x.abs() > f32::EPSILON"),
     ("the period divided once", "judge.rs", "seconds(elapsed) / seconds(period) / seconds(period)", "seconds(elapsed) / seconds(period)"),
     ("a step where nothing moves ahead", "judge.rs", "if horizontal(c.start, c.target) == 0.0", "if false"),

@@ -116,28 +116,34 @@ const STEP_DISTANCE: f32 = 0.025;
 const STEP_HEIGHT: f32 = 0.03;
 const STANDING: Command = Command { x: 0.0, y: 0.0, rotation: 0.0, step_time: STEP_TIME, height: STEP_HEIGHT, aggressive: false };
 
-/// The source's vector move: the distance is that of last from target.
-fn vector_towards(last: &Point, target: &Point, m: f32) -> Result<(Point, bool), Refusal> {
-    move_towards(last, target, m)?;
+/// The source's move of a vector, whose distance is that of last from target.
+fn vector_towards(last: &Point, target: &Point, m: f32) -> (Point, bool) {
     if last == target {
-        return Ok((*target, false));
+        return (*target, false);
     }
     let d = distance(target, last);
     if d <= m {
-        return Ok((*target, true));
+        return (*target, true);
     }
     let step = |l: f32, t: f32| l + ((t - l) / d) * m;
-    Ok((Point { x: step(last.x, target.x), y: step(last.y, target.y), z: step(last.z, target.z) }, true))
+    (Point { x: step(last.x, target.x), y: step(last.y, target.y), z: step(last.z, target.z) }, true)
 }
 
-/// The operations that set out, that step a state once, and that take a vector.
+/// The source's two moves as one: what both answer, to the bit.
+fn one_move(last: &Point, target: &Point, m: f32) -> Result<String, Refusal> {
+    let shown = |(p, moved): (Point, bool)| format!(" {}{}", if moved { "M" } else { "A" }, point(&p));
+    let told = shown(move_towards(last, target, m)?);
+    assert_eq!(told, shown(vector_towards(last, target, m)), "the source's two moves differ");
+    Ok(told)
+}
+
+/// The operations that set out and that step a state once.
 fn on_states(name: &str, f: &mut Fields) -> Parsed<String> {
     Some(match name {
-        "mvv" | "iter" | "next" => {
+        "iter" | "next" => {
             let (l, t, m) = (f.point()?, f.point()?, f.float()?);
             f.done()?;
             match name {
-                "mvv" => told(vector_towards(&l, &t, m), |(p, moved)| format!(" {}{}", if moved { "M" } else { "A" }, point(&p))),
                 "iter" => told(move_towards(&l, &t, m), |_| point(&l) + &point(&t) + &float(m)),
                 _ => told(move_towards(&l, &t, m), |(p, moved)| {
                     if moved { " M".to_string() + &point(&p) + &point(&p) + &point(&t) + &float(m) } else { " D".to_string() }
@@ -265,7 +271,7 @@ fn answer(line: &str) -> Parsed<String> {
         "mv" => {
             let (l, t, m) = (f.point()?, f.point()?, f.float()?);
             f.done()?;
-            told(move_towards(&l, &t, m), |(p, moved)| format!(" {}{}", if moved { "M" } else { "A" }, point(&p)))
+            told(one_move(&l, &t, m), |answer| answer)
         }
         "mv6" => {
             let (l, t, m) = (f.row()?, f.row()?, f.float()?);

@@ -29,8 +29,6 @@ pub const MERGE: u64 = 0x6d_6572_6765;
 
 pub const MV: u64 = 0x6d76;
 
-pub const MVV: u64 = 0x6d_7676;
-
 pub const ITER: u64 = 0x6974_6572;
 
 pub const NEXT: u64 = 0x6e65_7874;
@@ -93,7 +91,7 @@ pub fn shape(name: u64) -> u64 {
         SEL => 0x43,
         UPD => 0x4483,
         MERGE => 0x433,
-        MV | MVV | ITER | NEXT => 0x221,
+        MV | ITER | NEXT => 0x221,
         WALK => 0x122,
         MV6 | ITER6 | NEXT6 => 0x331,
         WALK6 => 0x133,

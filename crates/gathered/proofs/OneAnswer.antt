@@ -90,7 +90,6 @@ use Rattle.rows.proofs.updated_from_first.Reads as rows-updated-from-first
 use Rattle.moves.proofs.move_refused.Reads as moves-move-refused
 use Rattle.moves.proofs.move_feet_refused.Reads as moves-move-feet-refused
 use Rattle.moves.proofs.move_towards.Reads as moves-move-towards
-use Rattle.moves.proofs.move_vector_towards.Reads as moves-move-vector-towards
 use Rattle.moves.proofs.move_feet_towards.Reads as moves-move-feet-towards
 use Rattle.moves.proofs.to_move_towards_iter.Reads as moves-to-move-towards-iter
 use Rattle.moves.proofs.feet_to_move_towards_iter.Reads as moves-feet-to-move-towards-iter
@@ -103,7 +102,6 @@ use Rattle.moves.proofs.core.square_sum.Reads as moves-core-square-sum
 use Rattle.moves.proofs.core.distance.Reads as moves-core-distance
 use Rattle.moves.proofs.core.nearer.Reads as moves-core-nearer
 use Rattle.moves.proofs.core.move_towards.Reads as moves-core-move-towards
-use Rattle.moves.proofs.core.move_vector_towards.Reads as moves-core-move-vector-towards
 use Rattle.moves.proofs.core.point_of.Reads as moves-core-point-of
 use Rattle.moves.proofs.core.has_moved.Reads as moves-core-has-moved
 use Rattle.moves.proofs.core.together.Reads as moves-core-together
@@ -420,9 +418,6 @@ settled-moves-move-feet-refused i = one-value
 pub settled-moves-move-towards : Settled (moves-move-towards.Post tt)
 settled-moves-move-towards i = one-answer moves.told moves-one.told-loses-nothing
 
-pub settled-moves-move-vector-towards : Settled (moves-move-vector-towards.Post tt)
-settled-moves-move-vector-towards i = one-answer moves.told moves-one.told-loses-nothing
-
 pub settled-moves-move-feet-towards : Settled (moves-move-feet-towards.Post tt)
 settled-moves-move-feet-towards i = one-answer moves.toldFeet moves-one.toldFeet-loses-nothing
 
@@ -458,9 +453,6 @@ settled-moves-core-nearer i = one-value
 
 pub settled-moves-core-move-towards : Settled (moves-core-move-towards.Post tt)
 settled-moves-core-move-towards i = one-value
-
-pub settled-moves-core-move-vector-towards : Settled (moves-core-move-vector-towards.Post tt)
-settled-moves-core-move-vector-towards i = one-value
 
 pub settled-moves-core-point-of : Settled (moves-core-point-of.Post tt)
 settled-moves-core-point-of i = one-value

@@ -40,7 +40,6 @@ pub use moves::feet_to_move_towards_iter;
 pub use moves::longest_distance;
 pub use moves::move_feet_towards;
 pub use moves::move_towards;
-pub use moves::move_vector_towards;
 pub use moves::to_move_towards_iter;
 pub use numbers::Answer;
 pub use numbers::absolute;

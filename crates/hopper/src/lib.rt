@@ -47,7 +47,6 @@ pub mod foot_moves {
     pub use gathered::longest_distance;
     pub use gathered::move_feet_towards;
     pub use gathered::move_towards;
-    pub use gathered::move_vector_towards;
     pub use gathered::to_move_towards_iter;
     pub use gathered::walk;
     pub use gathered::walk_feet;

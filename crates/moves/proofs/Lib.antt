@@ -4,5 +4,6 @@ pub mod Largest
 pub mod Squares
 pub mod Steps
 pub mod OneMove
+pub mod Examples
 pub mod FootByFoot
 pub mod OneAnswer

@@ -1,6 +1,6 @@
--- The source has a move for vectors too, which takes its distance from target to last. It told what the point's move tells, of any input,
--- refused or not: the square of a difference is the same float the other way round. That holds of NaN and infinities as well, so nothing
--- is assumed.
+-- One move serves points and vectors. The source has a second, for vectors, which takes its distance from target to last. It told what the
+-- one move tells, of any input, refused or not: the square of a difference is the same float the other way round. That holds of NaN and
+-- infinities as well, so nothing is assumed.
 use mathlib.Core.Path.{_≡_, refl, sym, ap, ap₂, _∙_}
 use mathlib.Core.Bool.{Bool, true, false, not, _&&_, cond, Bool·beq}
 use Prim.Native.Nat.{ℕ, _+_, _-_, _*_, _≤_, _<_}
@@ -9,16 +9,17 @@ use native.Mathlib.Omega.{arith}
 use borrow.Author.Tests.{ltb-true, ltb-false}
 use lib.Dec.{ltb}
 use lib.Ieee.{Float, nan, inf, fin, binary32, up, down, neg, round, sum, add, sub, mul}
-use Rattle.numbers.specs.Told.{answer}
+use Rattle.numbers.specs.Told.{Told, answer}
 use Rattle.units.specs.Units.{gap}
 use Rattle.units.proofs.OtherSign.{turned-round}
 use Rattle.roots.specs.Root.{squareRoot}
 use Rattle.legs.specs.declared.Point.{Point}
 use Rattle.moves.specs.Distance.{square, apart², squareSum, distance}
-use Rattle.moves.specs.Moving.{stepAt, moveTowards, moveVectorTowards}
+use Rattle.moves.specs.Moving.{stepAt, moveTowards}
 use Rattle.moves.specs.Answers.{toldStep}
 use Rattle.moves.specs.Refusals.{moveRefusal}
-use Rattle.moves.specs.Entries.{moveTold, moveVectorTold}
+use Rattle.moves.specs.Entries.{moveTold}
+use Rattle.moves.specs.declared.MoveStep.{MoveStep}
 
 -- ---- a square does not show the sign
 square-neg : (x : Float) → square (neg x) ≡ square x
@@ -90,7 +91,13 @@ distance-back l t =
     ap squareRoot
     (ap₂ (add binary32) (ap₂ (add binary32) (square-back (l .x) (t .x)) (square-back (l .y) (t .y))) (square-back (l .z) (t .z)))
 
--- ---- so both moves told the same
+-- ---- the source's move of a vector, and what its entry told before the two were one
+unfoldable pub moveVectorTowards : Point → Point → Float → MoveStep
+moveVectorTowards l t m = stepAt (distance t l) l t m
+
+unfoldable pub moveVectorTold : Point → Point → Float → Told
+moveVectorTold l t m = answer (moveRefusal l t m) (toldStep (moveVectorTowards l t m))
+
 pub vector-move-was-the-same : (l t : Point) (m : Float) → moveVectorTold l t m ≡ moveTold l t m
 unfolding moveVectorTold moveTold moveVectorTowards moveTowards
 vector-move-was-the-same l t m = ap (λ (d : Float). answer (moveRefusal l t m) (toldStep (stepAt d l t m))) (distance-back l t)

@@ -1,4 +1,4 @@
--- Document 01, "Moving towards": one step of a point, of a vector, and of six feet.
+-- Document 01, "Moving towards", with request K6: one step, of a point or a vector, and of six feet.
 use mathlib.Core.Bool.{Bool, true, false}
 use lib.Ieee.{Float, binary32, add, sub, mul, div, le}
 use Rattle.numbers.specs.Told.{choose}
@@ -28,10 +28,6 @@ stepAt d l t m = choose (same l t) (Arrived t) (Moved (nearer d l t m))
 
 unfoldable pub moveTowards : Point → Point → Float → MoveStep
 moveTowards l t m = stepAt (distance l t) l t m
-
--- a vector's distance is taken from target to last, as the source has it
-unfoldable pub moveVectorTowards : Point → Point → Float → MoveStep
-moveVectorTowards l t m = stepAt (distance t l) l t m
 
 -- the point of a step, and whether it moved
 unfoldable pub pointOf : MoveStep → Point

@@ -13,7 +13,7 @@ ghost use Rattle.numbers.specs.Told.{choose};
 ghost use Rattle.roots.specs.Root.{squareRoot};
 ghost use Rattle.moves.specs.Distance.{same, squareSum, horizontalSum, distance};
 ghost use Rattle.moves.specs.Distance.{largest, longestDistance, maxHorizontalDistance};
-ghost use Rattle.moves.specs.Moving.{along, nearer, moveTowards, moveVectorTowards};
+ghost use Rattle.moves.specs.Moving.{along, nearer, moveTowards};
 ghost use Rattle.moves.specs.Moving.{pointOf, hasMoved, byLeg, together, moveFeetTowards};
 ghost use Rattle.moves.specs.Iterators.{nextPoint, nextFeet};
 
@@ -80,17 +80,6 @@ pub fn move_towards(last: Point, target: Point, max_move: f32) -> MoveStep
         MoveStep::Arrived(target)
     } else {
         MoveStep::Moved(nearer(distance(last, target), last, target, max_move))
-    }
-}
-
-// The same for a vector: its distance is that of the way back.
-pub fn move_vector_towards(last: Point, target: Point, max_move: f32) -> MoveStep
-    ensures { λ r. ⌜ r ≡ moveVectorTowards last target «max_move» ⌝ }
-{
-    if is_same(last, target) {
-        MoveStep::Arrived(target)
-    } else {
-        MoveStep::Moved(nearer(distance(target, last), last, target, max_move))
     }
 }
 

@@ -1,4 +1,4 @@
-// Foot moves: one step towards a target, for points, vectors and six feet, and the states that make step
+// Foot moves: one step towards a target, for a point or a vector and for six feet, and the states that make step
 // after step; the longest distance between two sets of feet (source 001). Lengths are metres.
 use legs::Feet;
 use legs::Point;
@@ -8,7 +8,7 @@ ghost use mathlib.Core.Path.{_≡_};
 ghost use Rattle.numbers.specs.Answers.{told as toldNumber};
 ghost use Rattle.moves.specs.Answers.{told, toldFeet, toldPointIter, toldFeetIter, toldNextPoint, toldNextFeet};
 ghost use Rattle.moves.specs.Refusals.{moveRefusal, moveFeetRefusal, longestRefusal};
-ghost use Rattle.moves.specs.Entries.{moveTold, moveVectorTold, moveFeetTold, longestTold};
+ghost use Rattle.moves.specs.Entries.{moveTold, moveFeetTold, longestTold};
 ghost use Rattle.moves.specs.Iterators.{pointIterTold, feetIterTold, nextPointTold, nextFeetTold};
 
 pub mod core;
@@ -115,25 +115,13 @@ pub fn move_feet_refused(last: Feet, target: Feet, max_move: f32) -> u32
     }
 }
 
-// A point takes one step of at most max_move towards its target.
+// A point or a vector takes one step of at most max_move towards its target.
 pub fn move_towards(last: Point, target: Point, max_move: f32) -> Towards
     ensures { λ r. ⌜ told r ≡ moveTold last target «max_move» ⌝ }
 {
     let n = move_refused(last, target, max_move);
     if n == 0 {
         Towards::Answered(core::move_towards(last, target, max_move))
-    } else {
-        Towards::Refused(n)
-    }
-}
-
-// The same for a vector, whose distance the source measures the other way round.
-pub fn move_vector_towards(last: Point, target: Point, max_move: f32) -> Towards
-    ensures { λ r. ⌜ told r ≡ moveVectorTold last target «max_move» ⌝ }
-{
-    let n = move_refused(last, target, max_move);
-    if n == 0 {
-        Towards::Answered(core::move_vector_towards(last, target, max_move))
     } else {
         Towards::Refused(n)
     }

@@ -4,18 +4,9 @@ use fields::answers;
 use fields::asked;
 use fields::said;
 
-// mv: last, target, max move.
+// mv, of a point or a vector: last, target, max move.
 pub fn point_move(w: Words) -> Words {
     answers::towards(hopper::foot_moves::move_towards(
-        asked::point(w, 0, 0),
-        asked::point(w, 0, 3),
-        asked::float(w, 0, 6),
-    ))
-}
-
-// mvv: the same of a vector.
-pub fn vector_move(w: Words) -> Words {
-    answers::towards(hopper::foot_moves::move_vector_towards(
         asked::point(w, 0, 0),
         asked::point(w, 0, 3),
         asked::float(w, 0, 6),

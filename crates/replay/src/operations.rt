@@ -23,7 +23,6 @@ fn answered(name: u64, w: Words) -> Words {
         names::UPD => legs_lines::update(w),
         names::MERGE => legs_lines::merge(w),
         names::MV => moves_lines::point_move(w),
-        names::MVV => moves_lines::vector_move(w),
         names::ITER => moves_lines::point_iter(w),
         names::NEXT => moves_lines::next_point(w),
         names::WALK => moves_lines::point_walk(w),
