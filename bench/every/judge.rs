@@ -89,12 +89,13 @@ impl Angles for Rust {
 
 // ---- moving towards
 
+/// The length of the way from a to b.
 pub fn distance(a: Point, b: Point) -> f32 {
-    let d = [a[0] - b[0], a[1] - b[1], a[2] - b[2]];
+    let d = [b[0] - a[0], b[1] - a[1], b[2] - a[2]];
     (d[0] * d[0] + d[1] * d[1] + d[2] * d[2]).sqrt()
 }
 
-/// The new point, d away from its target, and whether it moved.
+/// The new point, and whether it moved. d tells arrival; the way there is made as long as the move.
 fn moved_by(d: f32, last: Point, target: Point, max_move: f32) -> (Point, bool) {
     if (0..3).all(|k| last[k] == target[k]) {
         return (target, false);
@@ -102,7 +103,8 @@ fn moved_by(d: f32, last: Point, target: Point, max_move: f32) -> (Point, bool) 
     if d <= max_move {
         (target, true)
     } else {
-        (std::array::from_fn(|k| last[k] + ((target[k] - last[k]) / d) * max_move), true)
+        let length = distance(last, target);
+        (std::array::from_fn(|k| last[k] + ((target[k] - last[k]) / length) * max_move), true)
     }
 }
 
@@ -110,7 +112,7 @@ pub fn towards(last: Point, target: Point, max_move: f32) -> (Point, bool) {
     moved_by(distance(last, target), last, target, max_move)
 }
 
-/// The source's move of a vector: its distance is that of the way back.
+/// The source's move of a vector: arrival is told by the way back.
 pub fn vector_towards(last: Point, target: Point, max_move: f32) -> (Point, bool) {
     moved_by(distance(target, last), last, target, max_move)
 }

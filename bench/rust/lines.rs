@@ -116,15 +116,15 @@ const STEP_DISTANCE: f32 = 0.025;
 const STEP_HEIGHT: f32 = 0.03;
 const STANDING: Command = Command { x: 0.0, y: 0.0, rotation: 0.0, step_time: STEP_TIME, height: STEP_HEIGHT, aggressive: false };
 
-/// The source's move of a vector, whose distance is that of last from target.
+/// The source's move of a vector: arrival is told by the distance of last from target.
 fn vector_towards(last: &Point, target: &Point, m: f32) -> (Point, bool) {
     if last == target {
         return (*target, false);
     }
-    let d = distance(target, last);
-    if d <= m {
+    if distance(target, last) <= m {
         return (*target, true);
     }
+    let d = distance(last, target);
     let step = |l: f32, t: f32| l + ((t - l) / d) * m;
     (Point { x: step(last.x, target.x), y: step(last.y, target.y), z: step(last.z, target.z) }, true)
 }

@@ -1,6 +1,6 @@
--- One move serves points and vectors. The source has a second, for vectors, which takes its distance from target to last. It told what the
--- one move tells, of any input, refused or not: the square of a difference is the same float the other way round. That holds of NaN and
--- infinities as well, so nothing is assumed.
+-- One move serves points and vectors. The source has a second, for vectors, which takes its distance from target to last, and so had we. It
+-- told what the one move tells, of any input, refused or not: the square of a difference is the same float the other way round. That holds
+-- of NaN and infinities as well, so nothing is assumed.
 use mathlib.Core.Path.{_≡_, refl, sym, ap, ap₂, _∙_}
 use mathlib.Core.Bool.{Bool, true, false, not, _&&_, cond, Bool·beq}
 use Prim.Native.Nat.{ℕ, _+_, _-_, _*_, _≤_, _<_}
@@ -8,18 +8,19 @@ use native.Mathlib.Nat.{add-comm, mul-comm}
 use native.Mathlib.Omega.{arith}
 use borrow.Author.Tests.{ltb-true, ltb-false}
 use lib.Dec.{ltb}
-use lib.Ieee.{Float, nan, inf, fin, binary32, up, down, neg, round, sum, add, sub, mul}
-use Rattle.numbers.specs.Told.{Told, answer}
+use lib.Ieee.{Float, nan, inf, fin, binary32, up, down, neg, round, sum, add, sub, mul, le}
+use Rattle.numbers.specs.Told.{Told, choose, answer}
 use Rattle.units.specs.Units.{gap}
 use Rattle.units.proofs.OtherSign.{turned-round}
 use Rattle.roots.specs.Root.{squareRoot}
 use Rattle.legs.specs.declared.Point.{Point}
-use Rattle.moves.specs.Distance.{square, apart², squareSum, distance}
-use Rattle.moves.specs.Moving.{stepAt, moveTowards}
+use Rattle.moves.specs.Distance.{same, square, apart², squareSum, distance}
+use Rattle.moves.specs.Moving.{along, nearer, stepAt, moveTowards}
 use Rattle.moves.specs.Answers.{toldStep}
 use Rattle.moves.specs.Refusals.{moveRefusal}
 use Rattle.moves.specs.Entries.{moveTold}
 use Rattle.moves.specs.declared.MoveStep.{MoveStep}
+use Rattle.moves.specs.declared.MoveStep.the-variants.{Moved, Arrived}
 
 -- ---- a square does not show the sign
 square-neg : (x : Float) → square (neg x) ≡ square x
@@ -91,7 +92,16 @@ distance-back l t =
     ap squareRoot
     (ap₂ (add binary32) (ap₂ (add binary32) (square-back (l .x) (t .x)) (square-back (l .y) (t .y))) (square-back (l .z) (t .z)))
 
--- ---- the source's move of a vector, and what its entry told before the two were one
+-- ---- the source's move of a vector: it tells arrival by the way back, and divides by the length of the way there
+abbrev pub sourceVectorMove : Point → Point → Float → MoveStep
+sourceVectorMove l t m = choose (same l t) (Arrived t) (Moved (choose (le (distance t l) m) t (along (distance l t) m l t)))
+
+pub source-vector-move-is-ours : (l t : Point) (m : Float) → sourceVectorMove l t m ≡ moveTowards l t m
+unfolding moveTowards stepAt nearer
+source-vector-move-is-ours l t m =
+    ap (λ (d : Float). choose (same l t) (Arrived t) (Moved (choose (le d m) t (along (distance l t) m l t)))) (distance-back l t)
+
+-- ---- our own, as it was while it had an entry: the way back for both
 unfoldable pub moveVectorTowards : Point → Point → Float → MoveStep
 moveVectorTowards l t m = stepAt (distance t l) l t m
 
