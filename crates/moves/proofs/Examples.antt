@@ -1,5 +1,5 @@
--- Moves by computation, by either distance: request K6's two, a zero to the other zero and a piece that is lost in rounding, and one straight
--- up, which a distance in x and y alone would end at once.
+-- Moves by computation, by either distance: request K6's two, a zero to the other zero and a piece that is lost in rounding; and one
+-- straight up, which a distance in x and y alone would end at once.
 use mathlib.Core.Path.{_≡_, refl}
 use mathlib.Core.List.{[], _∷_}
 use Prim.Native.Nat.{ℕ}
