@@ -461,8 +461,8 @@ fn turn(i: &Input, want: u32, pace: Pace, w: &mut Worst) -> Option<Input> {
         return (n == want && a.is_held()).then_some(stays);
     }
     let (lift, progress) = lift_and_progress(i, pace);
-    let c = i.course();
-    let (Some(ours), Some(rust)) = (step::<Ours>(&c, &lift, progress), step::<Rust>(&c, &lift, progress)) else {
+    let (c, source) = (i.course(), pace != Pace::Even);
+    let (Some(ours), Some(rust)) = (step::<Ours>(&c, &lift, progress, source), step::<Rust>(&c, &lift, progress, source)) else {
         return (n == 0 && a.is_held()).then_some(stays);
     };
     let (out, rust) = (&a.feet, rust.as_flattened());

@@ -320,6 +320,26 @@ impl Run {
         f[54] = (0..6).map(|l| (f[3 * l] - f[36 + 3 * l]).hypot(f[3 * l + 1] - f[37 + 3 * l])).fold(0.0, f32::max) * 0.5;
     }
 
+    /// A step straight up or down: the targets have their starts' x and y, zeros with either sign, and at times their z; some feet are there.
+    fn straight(&mut self) {
+        let to = match self.entry.rows.len() {
+            56 => 36,
+            38 => 18,
+            _ => return,
+        };
+        let level = self.random.next() & 7 == 0;
+        for k in 0..18 {
+            let (x, r) = (self.input.f[k], self.random.next());
+            if k % 3 != 2 || level {
+                self.input.f[to + k] = if x == 0.0 && r & 1 == 0 { -x } else { x };
+            }
+        }
+        let there = self.random.next();
+        for l in (0..6).filter(|l| to == 36 && there >> l & 1 == 0) {
+            (0..3).for_each(|k| self.input.f[18 + 3 * l + k] = self.input.f[36 + 3 * l + k]);
+        }
+    }
+
     /// Leg l of an inverse: its coxa points at its foot, at times just past a right angle, at times the reach is 0.
     fn aim(&mut self, l: usize) {
         let (r, at) = (self.random.next(), 23 + 6 * l);
@@ -470,6 +490,7 @@ impl Run {
             13 => self.zeros(),
             14 if self.entry.name == "step by distance" => self.half_way(),
             15 => self.input.later = self.random.of(&self.wide.elapsed),
+            16 => self.straight(),
             _ => (),
         }
         self.call();

@@ -197,9 +197,9 @@ pub fn is_lifted(tripod: u32, leg: usize) -> bool {
     [0, 3, 4].contains(&leg) == (tripod == 0)
 }
 
-/// The feet of a step, or none.
-pub fn step<A: Angles>(c: &Course, lift: &Lift, progress: f32) -> Option<Feet> {
-    if horizontal(c.start, c.target) == 0.0 {
+/// The feet of a step, or none. The source's two iterators also end where nothing moves sideways, even pace does not (request K5).
+pub fn step<A: Angles>(c: &Course, lift: &Lift, progress: f32, source: bool) -> Option<Feet> {
+    if source && horizontal(c.start, c.target) == 0.0 {
         return None;
     }
     let mut feet = c.target;

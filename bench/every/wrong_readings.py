@@ -9,6 +9,7 @@ import tempfile
 HERE = os.path.dirname(os.path.abspath(__file__))
 LIBRARY = sys.argv[1]
 STATE = "a.is_state(i, pace, [&i.f[..18], ours.as_flattened(), &i.f[36..54]], &i.f[54..56])"
+LEVEL = "if source && horizontal(c.start, c.target) == 0.0"
 # what is read wrongly, where, the right words, the wrong ones
 WRONG = [
     ("a foot one ulp past its end", "judge.rs", "FOOT: Row = Row(-4.0, 4.0)", "FOOT: Row = Row(-4.0, 4.0000005)"),
@@ -23,7 +24,11 @@ WRONG = [
     ("a vector goes the other way", "judge.rs", "moved_by(distance(target, last), last, target", "moved_by(distance(target, last), target, last"),
     ("EPSILON itself is no move", "entries.rs", "x.abs() >= f32::EPSILON", "x.abs() > f32::EPSILON"),
     ("the period divided once", "judge.rs", "seconds(elapsed) / seconds(period) / seconds(period)", "seconds(elapsed) / seconds(period)"),
-    ("a step where nothing moves ahead", "judge.rs", "if horizontal(c.start, c.target) == 0.0", "if false"),
+    ("a step where nothing moves ahead", "judge.rs", LEVEL, "if false"),
+    ("even pace ends where nothing does", "judge.rs", LEVEL, LEVEL.replace("source && ", "")),
+    ("straight down in no time", "judge.rs", LEVEL, "let progress = if horizontal(c.start, c.target) == 0.0 { 1.0 } else { progress };\n    " + LEVEL),
+    ("even pace ends with its first foot", "judge.rs", "moved.then_some(feet)", "(moved && (source || (0..6).all(|l| c.last[l] != c.target[l]))).then_some(feet)"),
+    ("a foot is there in x and y alone", "judge.rs", "if last == target {", "if last[..2] == target[..2] {"),
     ("aggressive at progress 1/2", "judge.rs", "progress < 0.5 {", "progress <= 0.5 {"),
     ("the centre in row order", "judge.rs", "([0, 3, 4], [0, 4, 3])", "([0, 3, 4], [0, 3, 4])"),
     ("relaxed vectors centred too", "judge.rs", "(relaxed[l][0], relaxed[l][1]);\n        if", "(relaxed[l][0] - from[0], relaxed[l][1] - from[1]);\n        if"),

@@ -430,25 +430,32 @@ pub struct Lift {
     pub aggressive: bool,
 }
 
-fn by_time(start: &Row, last: &Row, target: &Row, lift: &Lift, elapsed: &Time, period: &Time, twice: bool) -> Result<(Row, bool), Refusal> {
+fn lift_seen(start: &Row, last: &Row, target: &Row, lift: &Lift) -> Result<(), Refusal> {
     let mut d = Door::new();
     rows_seen(&mut d, start, last, target);
     d.float(&DIRECTION, lift.height);
     d.float(&DIRECTION, lift.descent);
-    d.open()?;
-    let progress = if twice { timed_progress(elapsed, period)? } else { even_progress(elapsed, period)? };
-    if longest_horizontal(start, target) <= 0.0 {
-        return Ok((*last, false));
-    }
-    Ok(stepped(last, shift_legs(start, last, target, lift.height, lift.descent, lift.lifted, progress, lift.aggressive)))
+    d.open()
+}
+
+fn by_time(start: &Row, last: &Row, target: &Row, lift: &Lift, progress: f32) -> (Row, bool) {
+    stepped(last, shift_legs(start, last, target, lift.height, lift.descent, lift.lifted, progress, lift.aggressive))
 }
 
 pub fn timed_step(start: &Row, last: &Row, target: &Row, lift: &Lift, elapsed: &Time, period: &Time) -> Result<(Row, bool), Refusal> {
-    by_time(start, last, target, lift, elapsed, period, true)
+    lift_seen(start, last, target, lift)?;
+    let progress = timed_progress(elapsed, period)?;
+    if longest_horizontal(start, target) <= 0.0 {
+        return Ok((*last, false));
+    }
+    Ok(by_time(start, last, target, lift, progress))
 }
 
+/// Ends only where every last point equals its target (request K5).
 pub fn even_step(start: &Row, last: &Row, target: &Row, lift: &Lift, elapsed: &Time, period: &Time) -> Result<(Row, bool), Refusal> {
-    by_time(start, last, target, lift, elapsed, period, false)
+    lift_seen(start, last, target, lift)?;
+    let progress = even_progress(elapsed, period)?;
+    Ok(by_time(start, last, target, lift, progress))
 }
 
 // ---- the planner

@@ -1,4 +1,4 @@
--- p1 to p12 hold: p8 for all permitted feet, by what the masks 0 and 63 name, the others by computation.
+-- p1 to p12 and k5 hold: p8 for all permitted feet, by what the masks 0 and 63 name, the others by computation.
 use mathlib.Core.Path.{_≡_, refl}
 use mathlib.Core.Bool.{true, false}
 use Prim.Native.Nat.{ℕ}
@@ -6,7 +6,7 @@ use lib.Dec.{ltb}
 use lib.Count.{ones}
 use lib.Ieee.{ofBits, add, sub, mul, div, le, eq, round}
 use Rattle.numbers.specs.Door.{finite}
-use Rattle.numbers.specs.Limits.{over, minus, maskTo, footLimit, maxMove, walkFoot, walkMove}
+use Rattle.numbers.specs.Limits.{over, minus, maskTo, footLimit, maxMove, direction, walkFoot, walkMove}
 use Rattle.legs.specs.Legs.{finitePoint, permittedPoint, permittedFeet}
 use Rattle.legs.specs.Answers.{givenFeet}
 use Rattle.legs.specs.Merge.{merged, mergeRefusal, mergeTold}
@@ -15,16 +15,20 @@ use Rattle.legs.specs.declared.Feet.{Feet}
 use Rattle.legs.proofs.OnePass.{feet-finite}
 use Rattle.rows.specs.Rows.{everyPoint, updateRefusal, updateTold}
 use Rattle.roots.specs.Root.{squareRoot}
-use Rattle.moves.specs.Moving.{component, moveTowards, stepAt, nearer, along}
+use Rattle.moves.specs.Moving.{component, moveTowards, stepAt, nearer, along, hasMoved, pointOf}
 use Rattle.moves.specs.Distance.{same, squareSum, distance}
 use Rattle.moves.specs.Refusals.{moveRefusal}
 use Rattle.moves.specs.Entries.{moveTold}
 use Rattle.walks.specs.Answers.{walkRefusal}
 use Rattle.walks.proofs.Examples.{p6, p7}
+use Rattle.commands.specs.Constants.{one}
 use Rattle.commands.specs.Times.{elapsedPermitted, periodPermitted, wholeNumber, inSeconds}
 use Rattle.steps.specs.Progress.{timedProgress, evenProgress}
-use Rattle.steps.specs.Refusals.{progressRefusal}
-use Rattle.steps.specs.Entries.{timedProgressTold, evenProgressTold}
+use Rattle.steps.specs.Leg.{stepLiftedLeg}
+use Rattle.steps.specs.Shift.{shiftLegs}
+use Rattle.steps.specs.Next.{evenAt, nextEven}
+use Rattle.steps.specs.Refusals.{progressRefusal, liftRefusal}
+use Rattle.steps.specs.Entries.{timedProgressTold, evenProgressTold, nextEvenTold}
 use Rattle.cases.specs.Cases.{cases, Hold}
 
 -- one more case of a list
@@ -49,7 +53,8 @@ pub all-hold : Hold cases
 unfolding moveTold moveRefusal moveTowards stepAt same nearer along component distance squareSum squareRoot walkRefusal
     mergeTold mergeRefusal merged updateTold updateRefusal updated everyPoint ones finitePoint permittedPoint finite
     timedProgressTold evenProgressTold timedProgress evenProgress progressRefusal elapsedPermitted periodPermitted wholeNumber inSeconds
-    footLimit maxMove walkFoot walkMove over minus round ofBits add sub mul div le eq
+    nextEvenTold nextEven evenAt liftRefusal shiftLegs stepLiftedLeg hasMoved pointOf one
+    footLimit maxMove direction walkFoot walkMove over minus round ofBits add sub mul div le eq
 all-hold =
     -- p1 to p5
     refl and refl and refl and refl and refl
@@ -58,7 +63,8 @@ all-hold =
     -- p7, p8
     and (2, refl, λ _. p7)
     and none-merged and all-merged
-    -- p9; p10, p11 and p12
+    -- p9; p10, p11 and p12; k5
     and refl
     and refl and refl and refl and refl and refl
+    and refl
     and tt

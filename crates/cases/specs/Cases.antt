@@ -1,6 +1,6 @@
--- Document 01, "Cases to prove (p1 to p12)": one list, one statement. Lengths are metres.
+-- Document 01, "Cases to prove (p1 to p12)", and request K5's: one list, one statement. Lengths are metres.
 use mathlib.Core.Path.{_≡_}
-use mathlib.Core.Bool.{true}
+use mathlib.Core.Bool.{true, false}
 use mathlib.Core.List.{List, [], _∷_}
 use Prim.Native.Nat.{ℕ, _^_}
 use lib.Ieee.{Float, nan}
@@ -14,7 +14,10 @@ use Rattle.rows.specs.Rows.{updateTold}
 use Rattle.moves.specs.Entries.{moveTold}
 use Rattle.walks.specs.Walk.{Walk}
 use Rattle.walks.specs.Answers.{walkRefusal, Counts}
-use Rattle.steps.specs.Entries.{timedProgressTold, evenProgressTold}
+use Rattle.steps.specs.Answers.{liftMarks, liftValues, givenStep}
+use Rattle.steps.specs.Entries.{timedProgressTold, evenProgressTold, nextEvenTold}
+use Rattle.steps.specs.declared.Lift.{Lift}
+use Rattle.commands.specs.declared.Tripod.the-variants.{LRL}
 use Rattle.legs.specs.declared.Point.{Point}
 use Rattle.legs.specs.declared.Feet.{Feet}
 use Rattle.commands.specs.declared.Time.{Time}
@@ -60,6 +63,34 @@ abbrev Merges : ℕ → (Feet → Feet → Feet) → Type 0
 Merges mask pick = (a b : Feet) → permittedFeet footLimit a ≡ true → permittedFeet footLimit b ≡ true
     → mergeTold a b mask ≡ givenFeet (pick a b)
 
+-- a step at even pace: six feet from one point to another in half a second, the left front, right middle and left rear lifted by 3 cm;
+-- not yet gone, and the time is up. Its answer: the feet, and the state that remembers them
+abbrev lift : Lift
+lift =
+    record {
+      «step_height» = over 3 100;
+      «grounded_leg_descent» = zero;
+      tripod = LRL;
+      «aggressive_leg_lift» = false;
+    }
+
+abbrev paced : Point → Point → Told
+paced from to =
+    nextEvenTold
+    (record { start = all from; last = all from; target = all to; period = nanoseconds 500000000; lift = lift })
+    (nanoseconds 500000000)
+
+abbrev movedTo : Point → Point → Point → Told
+movedTo from to p =
+    givenStep (all p) (liftMarks lift (nanoseconds 500000000)) (liftValues lift (all from) (all p) (all to))
+
+-- (0.2, 0.1), 4 mm up and down
+abbrev lifted : Point
+lifted = record { x = over 1 5; y = over 1 10; z = over 4 1000 }
+
+abbrev lowered : Point
+lowered = at (over 1 5) (over 1 10)
+
 abbrev pub cases : List (Type 0)
 cases =
     -- p1 (0,0,0) to (1/4,0,0), m 1/8: (1/8,0,0), moved
@@ -90,6 +121,8 @@ cases =
     ∷ (evenProgressTold (nanoseconds (10 ^ 9)) (nanoseconds 500000000) ≡ refused 3)
     -- p12 NaN point with mask 64: refusal 1
     ∷ (mergeTold (all (at nan zero)) (all start) 64 ≡ refused 1)
+    -- k5 start and target differ only in z, progress 1: target, moved
+    ∷ (paced lifted lowered ≡ movedTo lifted lowered lowered)
     ∷ []
 
 -- every case of a list holds

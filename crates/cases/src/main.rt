@@ -1,4 +1,4 @@
-// Document 01's cases, run: a line each, its number and what came of it.
+// Document 01's cases and request K5's, run: a line each, its name and what came of it.
 use hopper::foot_moves::MoveStep;
 use hopper::foot_moves::Towards;
 use hopper::foot_moves::Walked;
@@ -6,7 +6,12 @@ use hopper::legs::Feet;
 use hopper::legs::Planned;
 use hopper::legs::Point;
 use hopper::numbers::Answer;
+use hopper::steps::EvenIter;
+use hopper::steps::EvenStepIterator;
+use hopper::steps::Lift;
+use hopper::steps::NextEven;
 use hopper::steps::Time;
+use hopper::steps::Tripod;
 use libc::STDOUT_FILENO;
 use numbers::patterns::Pattern;
 
@@ -172,6 +177,36 @@ fn even(n: u64, elapsed: u32, period: u32) {
     );
 }
 
+// k5: the first foot of a step at even pace stands for the six.
+fn paced(step: NextEven) {
+    io::write_all(STDOUT_FILENO, b"k5:");
+    match step {
+        NextEven::Step(feet, _) => {
+            io::write_all(STDOUT_FILENO, b" moved");
+            point(feet.left_front);
+        }
+        NextEven::NoStep => {
+            io::write_all(STDOUT_FILENO, b" no step\n");
+        }
+        NextEven::Refused(n) => refused(n),
+    }
+}
+
+// k5: six feet go from one point to another in half a second, at even pace; the time is up.
+fn lowered(from: Point, to: Point) {
+    let half = nanoseconds(500_000_000);
+    let lift = Lift {
+        step_height: 0.03,
+        grounded_leg_descent: 0.0,
+        tripod: Tripod::LRL,
+        aggressive_leg_lift: false,
+    };
+    match EvenStepIterator::step(all(from), all(to), half, lift) {
+        EvenIter::State(state) => paced(state.next(half)),
+        EvenIter::Refused(n) => refused(n),
+    }
+}
+
 fn main() {
     let start = all(at(0.0, 0.0));
     let quarter = at(0.25, 0.0);
@@ -185,4 +220,12 @@ fn main() {
     even(11, 999_999_999, 500_000_000);
     even(11, 1_000_000_000, 500_000_000);
     merged(12, lost, start, 64);
+    lowered(
+        Point {
+            x: 0.2,
+            y: 0.1,
+            z: 0.004,
+        },
+        at(0.2, 0.1),
+    );
 }

@@ -8,3 +8,4 @@ mod Whole
 pub mod Unrounded
 pub mod Sharp
 pub mod Bands
+pub mod Examples

@@ -7,4 +7,7 @@ pub mod Within
 pub mod Distances
 pub mod FootByFoot
 pub mod Taken
+pub mod Ends
+pub mod Examples
+pub mod Straight
 pub mod OneAnswer

@@ -49,7 +49,7 @@ module _ {S N : Type 0} (step : Feet → S → N) (none : N) (after : S → Feet
 step-one : (f g : Feet) (s r : StepIterator) → Step f s ≡ Step g r → (f ≡ g) × (s ≡ r)
 step-one f g s r e = ((cc), (cc))
 
-step-some : (f : Feet) (s : StepIterator) → NoStep ≡ Step f s → ⊥
+pub step-some : (f : Feet) (s : StepIterator) → NoStep ≡ Step f s → ⊥
 step-some f s e = let z : _≡_ {A = ℕ} 0 1 = cc in omega arith
 
 pub step-taken : (s s' : StepIterator) (f : Feet) → nextStep s ≡ Step f s'
@@ -75,7 +75,7 @@ step-taken s s' f =
 timed-one : (f g : Feet) (s r : TimedStepIterator) → TimedStep f s ≡ TimedStep g r → (f ≡ g) × (s ≡ r)
 timed-one f g s r e = ((cc), (cc))
 
-timed-some : (f : Feet) (s : TimedStepIterator) → NoTimedStep ≡ TimedStep f s → ⊥
+pub timed-some : (f : Feet) (s : TimedStepIterator) → NoTimedStep ≡ TimedStep f s → ⊥
 timed-some f s e = let z : _≡_ {A = ℕ} 0 1 = cc in omega arith
 
 pub timed-step-taken : (s s' : TimedStepIterator) (elapsed : Time) (f : Feet) → nextTimed s elapsed ≡ TimedStep f s'
@@ -92,15 +92,13 @@ timed-step-taken s s' elapsed f =
 even-one : (f g : Feet) (s r : EvenStepIterator) → EvenStep f s ≡ EvenStep g r → (f ≡ g) × (s ≡ r)
 even-one f g s r e = ((cc), (cc))
 
-even-some : (f : Feet) (s : EvenStepIterator) → NoEvenStep ≡ EvenStep f s → ⊥
+pub even-some : (f : Feet) (s : EvenStepIterator) → NoEvenStep ≡ EvenStep f s → ⊥
 even-some f s e = let z : _≡_ {A = ℕ} 0 1 = cc in omega arith
 
 pub even-step-taken : (s s' : EvenStepIterator) (elapsed : Time) (f : Feet) → nextEven s elapsed ≡ EvenStep f s'
     → (f ≡ feetOf (shiftLegs (s .start) (s .last) (s .target) (s .lift) (evenProgress elapsed (s .period))))
     × (s' ≡ evenLast s f)
-unfolding nextEven evenAt byTime
+unfolding nextEven evenAt
 even-step-taken s s' elapsed f =
-    not-ended-by-time EvenStep NoEvenStep evenLast even-some even-one s s' f
-    (timedEnded (maxHorizontalDistance (s .start) (s .target)))
-    (s .last)
+    taken EvenStep NoEvenStep evenLast even-some even-one s s' f
     (shiftLegs (s .start) (s .last) (s .target) (s .lift) (evenProgress elapsed (s .period)))

@@ -84,16 +84,27 @@ timed-asked elapsed period h =
     (div-from-zero (div binary32 e p) p (div-from-zero e p (seconds-from-zero elapsed) a) a)
     (div-fits binary32 (div binary32 e p) p)
 
-pub even-asked : (elapsed period : Time) → periodPermitted period ≡ true → SineAsked (evenProgress elapsed period)
+even-from-zero : (elapsed period : Time) → periodPermitted period ≡ true → FromZero (evenProgress elapsed period)
 unfolding evenProgress
+even-from-zero elapsed period h =
+    div-from-zero (inSeconds elapsed) (inSeconds period) (seconds-from-zero elapsed) (period-above period h)
+
+even-fits : (elapsed period : Time) → T (fits binary32 (evenProgress elapsed period))
+unfolding evenProgress
+even-fits elapsed period = div-fits binary32 (inSeconds elapsed) (inSeconds period)
+
+pub even-asked : (elapsed period : Time) → periodPermitted period ≡ true → SineAsked (evenProgress elapsed period)
 even-asked elapsed period h =
-    sine-within (div binary32 (inSeconds elapsed) (inSeconds period))
-    (div-from-zero (inSeconds elapsed) (inSeconds period) (seconds-from-zero elapsed) (period-above period h))
-    (div-fits binary32 (inSeconds elapsed) (inSeconds period))
+    sine-within (evenProgress elapsed period) (even-from-zero elapsed period h) (even-fits elapsed period)
+
+pub even-below-one : (elapsed period : Time) → periodPermitted period ≡ true → le one (evenProgress elapsed period) ≡ false
+    → Between 1 1 (evenProgress elapsed period)
+even-below-one elapsed period h =
+    below-one (evenProgress elapsed period) (even-from-zero elapsed period h) (even-fits elapsed period)
 
 -- where nothing is refused, both times are in the table
 module _ (start last target : Feet) (lift : Lift) (elapsed period : Time) where
-  period-taken : liftRefusal start last target lift (timely elapsed period) ≡ 0 → periodPermitted period ≡ true
+  pub period-taken : liftRefusal start last target lift (timely elapsed period) ≡ 0 → periodPermitted period ≡ true
   period-taken e =
       and-right (elapsedPermitted elapsed) (periodPermitted period)
       (step-in-time start last target lift (timely elapsed period) e)

@@ -1,5 +1,5 @@
--- Document 01, "Steps": the three iterators. A step that moved hands on its feet, and the state that remembers them;
--- "No step" leaves all as it is.
+-- Document 01, "Steps", with request K5: the three iterators. A step that moved hands on its feet, and the state that remembers
+-- them; "No step" leaves all as it is.
 use Rattle.commands.specs.Constants.{nought}
 use mathlib.Core.Bool.{Bool}
 use lib.Ieee.{Float, eq, le}
@@ -72,7 +72,7 @@ nextStep s =
     (s .«max_move»)
     (maxHorizontalDistance (s .start) (s .target)))))
 
--- the six legs of a step by time. Even pace is "the same, divided once; it also ends when the longest horizontal distance is 0"
+-- the six legs of `TimedStepIterator`, as the source has it
 unfoldable pub byTime : Feet → Feet → Feet → Lift → Float → FeetStep
 byTime start last target lift progress =
     choose (timedEnded (maxHorizontalDistance start target))
@@ -92,7 +92,9 @@ timedAt s progress = timedAfter s (byTime (s .start) (s .last) (s .target) (s .l
 unfoldable pub nextTimed : TimedStepIterator → Time → NextTimed
 nextTimed s elapsed = timedAt s (timedProgress elapsed (s .period))
 
--- at even pace
+-- Request K5: "Even pace ends only when every last point equals its target in all three coordinates; with no sideways distance the
+-- progress still runs by time." The leg rule's first test is which foot is at its target, and where no leg moved there is no step: so no
+-- distance is taken (proofs/Ends, `even-ends`)
 abbrev pub evenLast : EvenStepIterator → Feet → EvenStepIterator
 evenLast s f = record { start = s .start; last = f; target = s .target; period = s .period; lift = s .lift }
 
@@ -100,7 +102,7 @@ abbrev pub evenAfter : EvenStepIterator → FeetStep → NextEven
 evenAfter s = onward (λ f. EvenStep f (evenLast s f)) NoEvenStep
 
 unfoldable pub evenAt : EvenStepIterator → Float → NextEven
-evenAt s progress = evenAfter s (byTime (s .start) (s .last) (s .target) (s .lift) progress)
+evenAt s progress = evenAfter s (shiftLegs (s .start) (s .last) (s .target) (s .lift) progress)
 
 unfoldable pub nextEven : EvenStepIterator → Time → NextEven
 nextEven s elapsed = evenAt s (evenProgress elapsed (s .period))

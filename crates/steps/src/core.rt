@@ -205,7 +205,7 @@ pub fn next_step(s: StepIterator) -> NextStep
     }
 }
 
-// The feet of a step by time; where the longest horizontal distance is 0 none moves.
+// The feet of a timed step; where the longest horizontal distance is 0 none moves.
 fn by_time(start: Feet, last: Feet, target: Feet, lift: Lift, progress: f32) -> FeetStep
     ensures { λ r. ⌜ r ≡ byTime start last target lift progress ⌝ }
 {
@@ -232,11 +232,11 @@ pub fn next_timed(s: TimedStepIterator, progress: f32) -> NextTimed
     }
 }
 
-// The same at even pace.
+// One step more at even pace: it ends only where every last point equals its target, whatever lies sideways.
 pub fn next_even(s: EvenStepIterator, progress: f32) -> NextEven
     ensures { λ r. ⌜ r ≡ evenAt s progress ⌝ }
 {
-    let step = by_time(s.start, s.last, s.target, s.lift, progress);
+    let step = shift_legs(s.start, s.last, s.target, s.lift, progress);
     match step {
         FeetStep::Moved(feet) => {
             let mut after = s;

@@ -42,7 +42,7 @@ pub struct TimedStepIterator {
     pub lift: Lift,
 }
 
-// A step by time at even pace.
+// A step by time at even pace. It ends only where every foot is at its target.
 pub struct EvenStepIterator {
     pub start: Feet,
     pub last: Feet,

@@ -12,11 +12,11 @@ enum-told c = search needs
 
 returns : tie.Need-returns
 unfolding evenAt
-returns c = simp (← c .before .before .before .by-time .ensures, c .before .step .given .1)
+returns c = simp (← c .before .before .before .shift-legs .ensures, c .before .step .given .1)
 
 returns-2 : tie.Need-returns-2
 unfolding evenAt
-returns-2 c = simp (← c .before .before .by-time .ensures, c .enum-told .given .1)
+returns-2 c = simp (← c .before .before .shift-legs .ensures, c .enum-told .given .1)
 
 pub next-even-spec : {M : Type 1} → statement M
 next-even-spec = tie.close (tie.spec (λ _ _. tt) enum-known-step enum-told returns returns-2)

@@ -1,0 +1,131 @@
+-- Request K5's cases, by computation: six feet are to be lowered straight down, by 4 mm, in half a second. Even pace takes the step; the
+-- source's two iterators have none, since nothing moves sideways.
+use mathlib.Core.Path.{_≡_, refl}
+use mathlib.Core.Bool.{true, false}
+use mathlib.Core.List.{[], _∷_}
+use Prim.Native.Nat.{ℕ}
+use lib.Ieee.{Float, binary32, ofBits, round, add, sub, mul, div, lt, le, eq}
+use Rattle.commands.specs.Constants.{nought, one}
+use Rattle.commands.specs.Times.{elapsedPermitted, periodPermitted, wholeNumber, inSeconds}
+use Rattle.commands.specs.declared.Time.{Time}
+use Rattle.commands.specs.declared.Tripod.the-variants.{LRL}
+use Rattle.numbers.specs.Told.{Told}
+use Rattle.numbers.specs.Door.{finite}
+use Rattle.numbers.specs.Limits.{over, minus, footLimit, maxMove, direction}
+use Rattle.roots.specs.Root.{squareRoot}
+use Rattle.sines.specs.How.{sine}
+use Rattle.sines.proofs.Examples.{quarter-turn}
+use Rattle.legs.specs.Legs.{row, feet, finitePoint, permittedPoint}
+use Rattle.legs.specs.declared.Point.{Point}
+use Rattle.legs.specs.declared.Feet.{Feet}
+use Rattle.moves.specs.Distance.{same, horizontalSum, horizontalDistance, maxHorizontalDistance}
+use Rattle.moves.specs.Moving.{pointOf, hasMoved}
+use Rattle.steps.specs.Answers.{liftMarks, liftValues, givenStep, givenNone}
+use Rattle.steps.specs.Entries.{nextStepTold, nextTimedTold, nextEvenTold}
+use Rattle.steps.specs.Leg.{half, halfTurn, stepLiftedLeg}
+use Rattle.steps.specs.Next.{byTime, timedAt, evenAt, nextStep, nextTimed, nextEven}
+use Rattle.steps.specs.Progress.{stepProgress, timedProgress, evenProgress}
+use Rattle.steps.specs.Refusals.{stepRefusal, liftRefusal}
+use Rattle.steps.specs.Shift.{legStep, shiftLegs}
+use Rattle.steps.specs.declared.Lift.{Lift}
+
+abbrev bits : ℕ → Float
+bits = ofBits binary32
+
+-- (0.2, 0.1, z), and six feet there
+abbrev at : Float → Point
+at z = record { x = bits 0x3e4c_cccd; y = bits 0x3dcc_cccd; z = z }
+
+abbrev all : Float → Feet
+all z = feet (λ l. at z)
+
+-- 4 mm up, and down
+abbrev up : Feet
+up = all (bits 0x3b83_126f)
+
+abbrev down : Feet
+down = all (bits 0)
+
+-- down, but for right rear
+abbrev hanging : Feet
+hanging = record {
+  «left_front» = at (bits 0);
+  «left_middle» = at (bits 0);
+  «left_rear» = at (bits 0);
+  «right_front» = at (bits 0);
+  «right_middle» = at (bits 0);
+  «right_rear» = at (bits 0x3b83_126f);
+}
+
+-- half way in time: left front, right middle and left rear as high as the sine has them
+abbrev aloft : Point
+aloft = at (add binary32 (mul binary32 (sine (mul binary32 half halfTurn)) (bits 0x3cf5_c28f)) (bits 0x3b83_126f))
+
+abbrev swung : Feet
+swung = record {
+  «left_front» = aloft;
+  «left_middle» = at (bits 0x3b83_126f);
+  «left_rear» = aloft;
+  «right_front» = at (bits 0x3b83_126f);
+  «right_middle» = aloft;
+  «right_rear» = at (bits 0x3b83_126f);
+}
+
+abbrev lift : Lift
+lift = record {
+  «step_height» = bits 0x3cf5_c28f;
+  «grounded_leg_descent» = bits 0;
+  tripod = LRL;
+  «aggressive_leg_lift» = false;
+}
+
+abbrev seconds-of : ℕ → Time
+seconds-of n = record { seconds = 0; nanoseconds = n }
+
+-- from up to down in half a second, last where it says, at so many nanoseconds
+abbrev even : Feet → ℕ → Told
+even last n =
+    nextEvenTold (record { start = up; last = last; target = down; period = seconds-of 500000000; lift = lift }) (seconds-of n)
+
+abbrev timed : Feet → ℕ → Told
+timed last n =
+    nextTimedTold (record { start = up; last = last; target = down; period = seconds-of 500000000; lift = lift }) (seconds-of n)
+
+abbrev by-distance : Feet → Told
+by-distance last =
+    nextStepTold (record {
+      start = up;
+      last = last;
+      target = down;
+      «max_move» = over 1 8;
+      «step_height» = bits 0x3cf5_c28f;
+      tripod = LRL;
+      «aggressive_leg_lift» = false;
+    })
+
+-- a step there; the state after remembers it
+abbrev stepped : Feet → Told
+stepped f = givenStep f (liftMarks lift (seconds-of 500000000)) (liftValues lift up f down)
+
+-- ---- once the time is up; where all are down; with one foot up
+pub lowered : ((even up 500000000 ≡ stepped down) × (even down 500000000 ≡ givenNone) × (even hanging 500000000 ≡ stepped down))
+    × ((timed up 500000000 ≡ givenNone) × (timed down 500000000 ≡ givenNone) × (timed hanging 500000000 ≡ givenNone))
+    × ((by-distance up ≡ givenNone) × (by-distance down ≡ givenNone) × (by-distance hanging ≡ givenNone))
+unfolding nextEvenTold nextEven evenAt nextTimedTold nextTimed timedAt byTime nextStepTold nextStep liftRefusal stepRefusal
+    evenProgress timedProgress stepProgress shiftLegs stepLiftedLeg same hasMoved pointOf maxHorizontalDistance horizontalDistance
+    horizontalSum squareRoot elapsedPermitted periodPermitted wholeNumber inSeconds finitePoint permittedPoint finite
+    footLimit maxMove direction over minus nought one half halfTurn round ofBits add sub mul div lt le eq
+lowered = ((refl, refl, refl), (refl, refl, refl), (refl, refl, refl))
+
+-- of the last, one foot moved
+pub one-foot : row (λ l. hasMoved (legStep up hanging down lift (over 1 1) l)) ≡ (false ∷ false ∷ false ∷ false ∷ false ∷ true ∷ [])
+unfolding stepLiftedLeg same hasMoved over one round ofBits lt le eq
+one-foot = refl
+
+-- ---- half way in time
+pub half-way : (even up 250000000 ≡ stepped swung) × (timed up 250000000 ≡ givenNone)
+unfolding nextEvenTold nextEven evenAt nextTimedTold nextTimed timedAt byTime liftRefusal
+    evenProgress timedProgress shiftLegs stepLiftedLeg same hasMoved pointOf maxHorizontalDistance horizontalDistance
+    horizontalSum squareRoot elapsedPermitted periodPermitted wholeNumber inSeconds finitePoint permittedPoint finite
+    footLimit direction over minus nought one half halfTurn round ofBits add sub mul div lt le eq
+half-way = (simp (quarter-turn), refl)
