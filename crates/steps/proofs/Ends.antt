@@ -2,6 +2,7 @@
 -- the sideways distance have no say in it. The source's two end there too, and where nothing moves sideways, though z may differ. Of
 -- every float, refused or not.
 use mathlib.Core.Path.{_≡_, refl, sym, _∙_}
+use mathlib.Core.Logic.{_↔_}
 use mathlib.Core.Bool.{Bool, true, false, not, _&&_, _||_, true≢false}
 use lib.Ieee.{Float, le}
 use Rattle.commands.specs.Constants.{one}
@@ -29,10 +30,6 @@ use Rattle.steps.specs.declared.NextTimed.the-variants.{Step as TimedSte
 use Rattle.steps.specs.declared.NextEven.the-variants.{Step as EvenStep, NoStep as NoEvenStep}
 use Rattle.steps.proofs.FootByFoot.{shared-flag}
 use Rattle.steps.proofs.Taken.{step-some, timed-some, even-some}
-
--- each way
-abbrev pub Exactly : Type 0 → Type 0 → Type 0
-Exactly P Q = (P → Q) × (Q → P)
 
 -- whether a foot is at its target, in x, y and z as numbers; whether all six are
 abbrev pub there : Feet → Feet → Leg → Bool
@@ -82,12 +79,12 @@ module _ (start last target : Feet) (lift : Lift) (progress : Float) where
       shared-flag start last target lift progress ∙ some-moved
       ∙ not-all (b leftFront) (b rightFront) (b leftMiddle) (b rightMiddle) (b leftRear) (b rightRear)
 
--- ---- whatever the state: `step` and `none` are what a step that moved leads to and one that did not; `there` is whether all six were at
--- their targets
-module _ {N : Type 0} (step : Feet → N) (none : N) (some : (f : Feet) → none ≡ step f → ⊥) (all : Bool) where
-  stood : (g : FeetStep) → oneMoved g ≡ not all → Exactly (onward step none g ≡ none) (all ≡ true)
+-- ---- whatever the state: `step` and `none` are what a step that moved leads to and one that did not, `all` is whether all six feet were
+-- at their targets
+module _ {N : Type 0} (step : Feet → N) (none : N) (differ : (f : Feet) → none ≡ step f → ⊥) (all : Bool) where
+  stood : (g : FeetStep) → oneMoved g ≡ not all → (onward step none g ≡ none) ↔ (all ≡ true)
   unfolding oneMoved
-  stood (FeetMoved f) h = (λ e. absurd (some f (sym e)), λ e. absurd (true≢false (moved e)))
+  stood (FeetMoved f) h = (λ e. absurd (differ f (sym e)), λ e. absurd (true≢false (moved e)))
     where
       moved : all ≡ true → true ≡ false
       moved e = simp (h, e)
@@ -99,20 +96,19 @@ module _ {N : Type 0} (step : Feet → N) (none : N) (some : (f : Feet) → none
 
   -- or it was over before a leg was asked
   ended : (over : Bool) (g : FeetStep) → oneMoved g ≡ not all
-      → Exactly (choose over none (onward step none g) ≡ none) ((over || all) ≡ true)
+      → (choose over none (onward step none g) ≡ none) ↔ ((over || all) ≡ true)
   ended true g h = (λ e. refl, λ e. refl)
   ended false g h = stood g h
 
   ended-by-time : (over : Bool) (last : Feet) (g : FeetStep) → oneMoved g ≡ not all
-      → Exactly (onward step none (choose over (FeetArrived last) g) ≡ none) ((over || all) ≡ true)
+      → (onward step none (choose over (FeetArrived last) g) ≡ none) ↔ ((over || all) ≡ true)
   ended-by-time true last g h = (λ e. refl, λ e. refl)
   ended-by-time false last g h = stood g h
 
 -- ---- by distance
 pub step-ends : (s : StepIterator)
-    → Exactly
-    (nextStep s ≡ NoStep)
-    ((stepEnded (maxHorizontalDistance (s .start) (s .target)) || all-there (s .last) (s .target)) ≡ true)
+    → (nextStep s ≡ NoStep)
+    ↔ ((stepEnded (maxHorizontalDistance (s .start) (s .target)) || all-there (s .last) (s .target)) ≡ true)
 unfolding nextStep
 step-ends s =
     let full = maxHorizontalDistance (s .start) (s .target) in
@@ -123,9 +119,8 @@ step-ends s =
 
 -- ---- by time
 pub timed-ends : (s : TimedStepIterator) (elapsed : Time)
-    → Exactly
-    (nextTimed s elapsed ≡ NoTimedStep)
-    ((timedEnded (maxHorizontalDistance (s .start) (s .target)) || all-there (s .last) (s .target)) ≡ true)
+    → (nextTimed s elapsed ≡ NoTimedStep)
+    ↔ ((timedEnded (maxHorizontalDistance (s .start) (s .target)) || all-there (s .last) (s .target)) ≡ true)
 unfolding nextTimed timedAt byTime
 timed-ends s elapsed =
     let p = timedProgress elapsed (s .period) in
@@ -137,7 +132,7 @@ timed-ends s elapsed =
 
 -- ---- at even pace: THE PROMISE OF K5
 pub even-ends : (s : EvenStepIterator) (elapsed : Time)
-    → Exactly (nextEven s elapsed ≡ NoEvenStep) (every (λ l. same (foot (s .last) l) (foot (s .target) l)) ≡ true)
+    → (nextEven s elapsed ≡ NoEvenStep) ↔ (every (λ l. same (foot (s .last) l) (foot (s .target) l)) ≡ true)
 unfolding nextEven evenAt
 even-ends s elapsed =
     let p = evenProgress elapsed (s .period) in
