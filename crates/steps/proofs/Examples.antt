@@ -79,17 +79,17 @@ lift = record {
   «aggressive_leg_lift» = false;
 }
 
-abbrev seconds-of : ℕ → Time
-seconds-of n = record { seconds = 0; nanoseconds = n }
+abbrev nanoseconds-of : ℕ → Time
+nanoseconds-of n = record { seconds = 0; nanoseconds = n }
 
 -- from up to down in half a second, last where it says, at so many nanoseconds
 abbrev even : Feet → ℕ → Told
 even last n =
-    nextEvenTold (record { start = up; last = last; target = down; period = seconds-of 500000000; lift = lift }) (seconds-of n)
+    nextEvenTold (record { start = up; last = last; target = down; period = nanoseconds-of 500000000; lift = lift }) (nanoseconds-of n)
 
 abbrev timed : Feet → ℕ → Told
 timed last n =
-    nextTimedTold (record { start = up; last = last; target = down; period = seconds-of 500000000; lift = lift }) (seconds-of n)
+    nextTimedTold (record { start = up; last = last; target = down; period = nanoseconds-of 500000000; lift = lift }) (nanoseconds-of n)
 
 abbrev by-distance : Feet → Told
 by-distance last =
@@ -105,7 +105,7 @@ by-distance last =
 
 -- a step there; the state after remembers it
 abbrev stepped : Feet → Told
-stepped f = givenStep f (liftMarks lift (seconds-of 500000000)) (liftValues lift up f down)
+stepped f = givenStep f (liftMarks lift (nanoseconds-of 500000000)) (liftValues lift up f down)
 
 -- ---- once the time is up; where all are down; with one foot up
 pub lowered : ((even up 500000000 ≡ stepped down) × (even down 500000000 ≡ givenNone) × (even hanging 500000000 ≡ stepped down))
