@@ -1,9 +1,9 @@
 -- Request K5's cases, by computation: six feet are to be lowered straight down, by 4 mm, in half a second. Even pace takes the step; the
 -- source's two iterators have none, since nothing moves sideways.
-use mathlib.Core.Path.{_≡_, refl}
-use mathlib.Core.Bool.{true, false}
+use mathlib.Core.Path.{_≡_, refl, ap, _∙_}
+use mathlib.Core.Bool.{Bool, true, false}
 use mathlib.Core.List.{[], _∷_}
-use Prim.Native.Nat.{ℕ}
+use Prim.Native.Nat.{ℕ, _^_}
 use lib.Ieee.{Float, binary32, ofBits, round, add, sub, mul, div, lt, le, eq}
 use Rattle.commands.specs.Constants.{nought, one}
 use Rattle.commands.specs.Times.{elapsedPermitted, periodPermitted, wholeNumber, inSeconds}
@@ -57,39 +57,41 @@ hanging = record {
   «right_rear» = at (bits 0x3b83_126f);
 }
 
--- half way in time: left front, right middle and left rear as high as the sine has them
-abbrev aloft : Point
-aloft = at (add binary32 (mul binary32 (sine (mul binary32 half halfTurn)) (bits 0x3cf5_c28f)) (bits 0x3b83_126f))
-
-abbrev swung : Feet
-swung = record {
-  «left_front» = aloft;
-  «left_middle» = at (bits 0x3b83_126f);
-  «left_rear» = aloft;
-  «right_front» = at (bits 0x3b83_126f);
-  «right_middle» = aloft;
-  «right_rear» = at (bits 0x3b83_126f);
+-- left front, right middle and left rear at one height, the others at another
+abbrev swung : Float → Float → Feet
+swung lifted standing = record {
+  «left_front» = at lifted;
+  «left_middle» = at standing;
+  «left_rear» = at lifted;
+  «right_front» = at standing;
+  «right_middle» = at lifted;
+  «right_rear» = at standing;
 }
 
-abbrev lift : Lift
-lift = record {
+-- three feet are lifted by 3 cm, in aggressive mode or not
+abbrev lift : Bool → Lift
+lift aggressive = record {
   «step_height» = bits 0x3cf5_c28f;
   «grounded_leg_descent» = bits 0;
   tripod = LRL;
-  «aggressive_leg_lift» = false;
+  «aggressive_leg_lift» = aggressive;
 }
 
 abbrev nanoseconds-of : ℕ → Time
 nanoseconds-of n = record { seconds = 0; nanoseconds = n }
 
 -- from up to down in half a second, last where it says, at so many nanoseconds
-abbrev even : Feet → ℕ → Told
-even last n =
-    nextEvenTold (record { start = up; last = last; target = down; period = nanoseconds-of 500000000; lift = lift }) (nanoseconds-of n)
+abbrev even : Bool → Feet → ℕ → Told
+even aggressive last n =
+    nextEvenTold
+    (record { start = up; last = last; target = down; period = nanoseconds-of 500000000; lift = lift aggressive })
+    (nanoseconds-of n)
 
 abbrev timed : Feet → ℕ → Told
 timed last n =
-    nextTimedTold (record { start = up; last = last; target = down; period = nanoseconds-of 500000000; lift = lift }) (nanoseconds-of n)
+    nextTimedTold
+    (record { start = up; last = last; target = down; period = nanoseconds-of 500000000; lift = lift false })
+    (nanoseconds-of n)
 
 abbrev by-distance : Feet → Told
 by-distance last =
@@ -104,11 +106,14 @@ by-distance last =
     })
 
 -- a step there; the state after remembers it
-abbrev stepped : Feet → Told
-stepped f = givenStep f (liftMarks lift (nanoseconds-of 500000000)) (liftValues lift up f down)
+abbrev stepped : Bool → Feet → Told
+stepped aggressive f =
+    givenStep f (liftMarks (lift aggressive) (nanoseconds-of 500000000)) (liftValues (lift aggressive) up f down)
 
 -- ---- once the time is up; where all are down; with one foot up
-pub lowered : ((even up 500000000 ≡ stepped down) × (even down 500000000 ≡ givenNone) × (even hanging 500000000 ≡ stepped down))
+pub lowered : ((even false up 500000000 ≡ stepped false down)
+    × (even false down 500000000 ≡ givenNone)
+    × (even false hanging 500000000 ≡ stepped false down))
     × ((timed up 500000000 ≡ givenNone) × (timed down 500000000 ≡ givenNone) × (timed hanging 500000000 ≡ givenNone))
     × ((by-distance up ≡ givenNone) × (by-distance down ≡ givenNone) × (by-distance hanging ≡ givenNone))
 unfolding nextEvenTold nextEven evenAt nextTimedTold nextTimed timedAt byTime nextStepTold nextStep liftRefusal stepRefusal
@@ -118,14 +123,29 @@ unfolding nextEvenTold nextEven evenAt nextTimedTold nextTimed timedAt byTime ne
 lowered = ((refl, refl, refl), (refl, refl, refl), (refl, refl, refl))
 
 -- of the last, one foot moved
-pub one-foot : row (λ l. hasMoved (legStep up hanging down lift (over 1 1) l)) ≡ (false ∷ false ∷ false ∷ false ∷ false ∷ true ∷ [])
+pub one-foot : row (λ l. hasMoved (legStep up hanging down (lift false) (over 1 1) l))
+    ≡ (false ∷ false ∷ false ∷ false ∷ false ∷ true ∷ [])
 unfolding stepLiftedLeg same hasMoved over one round ofBits lt le eq
 one-foot = refl
 
--- ---- half way in time
-pub half-way : (even up 250000000 ≡ stepped swung) × (timed up 250000000 ≡ givenNone)
+-- ---- half way in time: "z of left front, right middle, left rear is sine(P/2) * 0.03 + 0.004"; and a quarter of the way in aggressive
+-- mode, at full height at once
+abbrev risen : Float → Feet
+risen s =
+    swung
+    (add binary32 (mul binary32 s (bits 0x3cf5_c28f)) (bits 0x3b83_126f))
+    (add binary32 (mul binary32 s (bits 0)) (bits 0x3b83_126f))
+
+pub on-the-way : (even false up 250000000 ≡ stepped false (risen (sine (over 13176795 (2 ^ 23)))))
+    × (even true up 125000000 ≡ stepped true (swung (bits 0x3d0b_4395) (bits 0x3b83_126f)))
+    × (timed up 250000000 ≡ givenNone)
 unfolding nextEvenTold nextEven evenAt nextTimedTold nextTimed timedAt byTime liftRefusal
     evenProgress timedProgress shiftLegs stepLiftedLeg same hasMoved pointOf maxHorizontalDistance horizontalDistance
     horizontalSum squareRoot elapsedPermitted periodPermitted wholeNumber inSeconds finitePoint permittedPoint finite
     footLimit direction over minus nought one half halfTurn round ofBits add sub mul div lt le eq
-half-way = (simp (quarter-turn), refl)
+on-the-way = (refl, refl, refl)
+
+-- which is 34 mm, and 4 mm for the others
+pub half-way : even false up 250000000 ≡ stepped false (swung (bits 0x3d0b_4395) (bits 0x3b83_126f))
+unfolding over round ofBits add mul
+half-way = on-the-way .0 ∙ ap (λ (s : Float). stepped false (risen s)) quarter-turn
