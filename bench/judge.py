@@ -3,6 +3,7 @@
 Holds answers to operation lines (docs/OPERATIONS.md) against reference answers, each as document 01 says: to the bit,
 or within its bound. Prints what differs, the largest distances, and last how many lines were judged and how many failed."""
 import math
+import re
 import struct
 import sys
 
@@ -62,22 +63,12 @@ class Judge:
                 return bad
         return None
 
-    def coxa_near_limit(self, line):
-        f = floats(line.split()[1:])
-        feet, legs = f[:18], f[23:]
-        for l in range(6):
-            x, y = feet[3 * l] - legs[6 * l], feet[3 * l + 1] - legs[6 * l + 1]
-            angle = math.atan2(y, x) + legs[6 * l + 3]
-            if min(abs(angle - math.pi / 2), abs(angle + math.pi / 2)) <= 2.0 ** -16 + 1e-6:
-                return True
-        return False
-
     def line(self, line, got, want):
         if got == want:
             return None
         name, g, w = line.split(" ")[0], got.split(), want.split()
-        if name == "ik" and "R 6" in (got, want) and self.coxa_near_limit(line):
-            return None
+        if name == "ik" and kinds(got, want) in (("leg", "leg"), ("leg", "ok"), ("ok", "leg")):
+            return past_limit(line, g)
         if not w or w[0] != "ok" or not g or g[0] != "ok":
             return "another refusal"
         if name in ("sin", "cos"):
@@ -94,6 +85,36 @@ class Judge:
         if name == "fk":
             return self.row("forward kinematics", g[1:], w[1:], 2.0 ** -17)
         return "not equal to the bit"
+
+
+def kinds(*answers):
+    return tuple("leg" if re.fullmatch("R [68] [0-5]", a) else a.split(" ")[0] for a in answers)
+
+
+def single(x):
+    """The f32 nearest to x."""
+    return struct.unpack("f", struct.pack("f", x))[0]
+
+
+def coxa_angles(line):
+    """Of the six legs, in f32 but for the arc tangent."""
+    f = floats(line.split()[1:])
+    feet, legs = f[:18], f[23:]
+    for l in range(6):
+        x, y = (single(feet[3 * l + k] - legs[6 * l + k]) for k in range(2))
+        yield single(math.atan2(y, x) + legs[6 * l + 3])
+
+
+def past_limit(line, got):
+    """Of an answer to `ik` that names a leg where the reference has another or none, or names none: no leg before the one that it names,
+    or no leg at all, is past its limit by more than 2^-16, and the one that it names is at most that short of its side."""
+    angles, right, slack = list(coxa_angles(line)), math.pi / 2, 2.0 ** -16
+    number, leg = (int(got[1]), int(got[2])) if got[0] == "R" else (0, 6)
+    if any(abs(a) > right + slack for a in angles[:leg]):
+        return "a leg before it is past its limit"
+    if number == 6 and angles[leg] < right - slack or number == 8 and angles[leg] > slack - right:
+        return "the leg that it names is not past its limit there"
+    return None
 
 
 def turns_well(start, relaxed, standing):

@@ -515,8 +515,8 @@ fn planner(i: &Input, want: u32, w: &mut Worst) -> bool {
         && (0..6).all(|l| out[3 * l + 2].to_bits() == rust[l][2].to_bits() && (!(well || is_lifted(i.tripod, l)) || near(l)))
 }
 
-/// To the bit over the library's functions, refusal 6 included; over Rust's, joints within 2^-16, and refusal 6 may differ
-/// where a coxa angle is within 2^-16 of the limit.
+/// To the bit over the library's functions, refusals 6 and 8 and their leg included; over Rust's, joints within 2^-16, and another leg or
+/// side only where a coxa angle is within 2^-16 of a limit.
 fn inverse_kinematics(i: &Input, want: u32, w: &mut Worst) -> bool {
     let mut out = [HELD; 18];
     let n = unsafe { probe_ik(i.at(0), 59, out.as_mut_ptr(), 18) };
@@ -526,15 +526,13 @@ fn inverse_kinematics(i: &Input, want: u32, w: &mut Worst) -> bool {
     let (feet, body) = (i.feet(0), i.body());
     let ours: [(f32, Point); 6] = std::array::from_fn(|l| inverse::<Ours>(feet[l], &body, &i.leg(l)));
     let rust: [(f32, Point); 6] = std::array::from_fn(|l| inverse::<Rust>(feet[l], &body, &i.leg(l)));
-    let past = ours.iter().any(|e| is_past(e.0));
-    let at_limit = rust.iter().any(|e| ((e.0 as f64).abs() - std::f64::consts::FRAC_PI_2).abs() <= 1.0 / 65536.0);
-    if past != rust.iter().any(|e| is_past(e.0)) && !at_limit {
+    if n != first_past(ours.map(|e| e.0)) || !right_within(n, rust.map(|e| e.0)) {
         return false;
     }
-    if past {
-        return n == 6 && held(&out);
+    if n != 0 {
+        return held(&out);
     }
-    n == 0 && is_at(&out, &ours.map(|e| e.1)) && (0..18).all(|k| w.near(out[k], rust[k / 3].1[k % 3], 1.0 / 65536.0))
+    is_at(&out, &ours.map(|e| e.1)) && (0..18).all(|k| w.near(out[k], rust[k / 3].1[k % 3], 1.0 / 65536.0))
 }
 
 /// To the bit over the library's functions; over Rust's within 2^-17 m.
@@ -576,7 +574,7 @@ pub struct Entry {
 }
 
 impl Entry {
-    /// The lowest number that applies, 6 apart.
+    /// The lowest number that applies, 6 and 8 apart.
     pub fn refusal(&self, i: &Input) -> u32 {
         let t = &self.takes;
         if t.any {

@@ -340,18 +340,19 @@ impl Run {
         }
     }
 
-    /// Leg l of an inverse: its coxa points at its foot, at times just past a right angle, at times the reach is 0.
+    /// Leg l of an inverse: its coxa points at its foot, at times about a right angle off, to either side, at times the reach is 0.
     fn aim(&mut self, l: usize) {
         let (r, at) = (self.random.next(), 23 + 6 * l);
         let f = &mut self.input.f;
         for k in 0..3 {
             f[at + k] = f[3 * l + k] * 0.5;
         }
+        let right = if r & 128 == 0 { 90f32 } else { -90f32 };
         let away = -(f[3 * l + 1] - f[at + 1]).atan2(f[3 * l] - f[at]);
         f[at + 3] = away + 1.7 * (f[at + 3] / 4.0);
         match r & 63 {
             0 => (f[at], f[at + 3]) = (f[3 * l], 0.0),
-            1 => f[at + 3] = neighbour(away + 90f32.to_radians(), r & 64 != 0),
+            1 => f[at + 3] = neighbour(away + right.to_radians(), r & 64 != 0),
             2 => (f[3 * l], f[3 * l + 1], f[3 * l + 2], f[at], f[at + 1], f[at + 2], f[20]) = (f[18], 0.0, 0.0, 0.0, 0.0, 0.0, f[19]),
             _ => (),
         }

@@ -306,9 +306,36 @@ pub fn inverse<A: Angles>(foot: Point, body: &Body, leg: &Leg) -> (f32, Point) {
     (angle, joints)
 }
 
-/// At or past 90 degrees either way.
-pub fn is_past(angle: f32) -> bool {
-    angle >= 90f32.to_radians() || angle <= (-90f32).to_radians()
+/// A leg's refusal by its coxa's angle: 6 at 90 degrees or more, 8 at -90 degrees or less, else 0.
+pub fn side(angle: f32) -> u32 {
+    if angle >= 90f32.to_radians() {
+        6
+    } else if angle <= (-90f32).to_radians() {
+        8
+    } else {
+        0
+    }
+}
+
+/// The first leg in row order that is past its limit: its refusal and 256 times the leg, or 0.
+pub fn first_past(angles: [f32; 6]) -> u32 {
+    (0..6).find(|&l| side(angles[l]) != 0).map_or(0, |l| side(angles[l]) + 256 * l as u32)
+}
+
+/// Whether this answer is right for angles that are known to within 2^-16: no leg before the one that it names, or no leg at all, is past
+/// its limit by more than that, and the one that it names is at most that short of its side.
+pub fn right_within(answer: u32, angles: [f32; 6]) -> bool {
+    let (right, slack) = (std::f64::consts::FRAC_PI_2, 1.0 / 65536.0);
+    let (number, leg) = (answer % 256, (answer / 256) as usize);
+    let before = if number == 0 { 6 } else { leg };
+    let well_past = |l: usize| (angles[l] as f64).abs() > right + slack;
+    let named = match number {
+        0 => answer == 0,
+        6 => leg < 6 && angles[leg] as f64 >= right - slack,
+        8 => leg < 6 && angles[leg] as f64 <= slack - right,
+        _ => false,
+    };
+    named && !(0..before).any(well_past)
 }
 
 pub fn forward<A: Angles>(joints: Point, body: &Body, leg: &Leg) -> Point {

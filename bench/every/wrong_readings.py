@@ -9,6 +9,8 @@ import tempfile
 HERE = os.path.dirname(os.path.abspath(__file__))
 LIBRARY = sys.argv[1]
 STATE = "a.is_state(i, pace, [&i.f[..18], ours.as_flattened(), &i.f[36..54]], &i.f[54..56])"
+SIDES = "6\n    } else if angle <= (-90f32).to_radians() {\n        8"
+FIRST = "(0..6).find(|&l| side(angles[l]) != 0)"
 LEVEL = "if source && horizontal(c.start, c.target) == 0.0"
 # what is read wrongly, where, the right words, the wrong ones
 WRONG = [
@@ -36,8 +38,14 @@ WRONG = [
     ("-s for 0 - s", "judge.rs", "[c, 0.0 - s, 0.0]", "[c, -s, 0.0]"),
     ("a lifted z copied", "judge.rs", "p[1] + dy, p[2] + 0.0]", "p[1] + dy, p[2]]"),
     ("a NaN quotient is -1", "judge.rs", "if q.is_nan() || q > 1.0 { 1.0 }", "if q.is_nan() { -1.0 } else if q > 1.0 { 1.0 }"),
-    ("90 degrees permitted", "judge.rs", "angle >= 90f32.to_radians() ||", "angle > 90f32.to_radians() ||"),
-    ("-90 degrees permitted", "judge.rs", "|| angle <= (-90f32)", "|| angle < (-90f32)"),
+    ("90 degrees permitted", "judge.rs", "if angle >= 90f32", "if angle > 90f32"),
+    ("-90 degrees permitted", "judge.rs", "if angle <= (-90f32)", "if angle < (-90f32)"),
+    ("6 and 8 exchanged", "judge.rs", SIDES, SIDES.replace("6", "x").replace("8", "6").replace("x", "8")),
+    ("6 on both sides", "judge.rs", SIDES, SIDES.replace("8", "6")),
+    ("the last leg past its limit", "judge.rs", FIRST, FIRST.replace(".find", ".rev().find")),
+    ("a 6 before any 8", "judge.rs", FIRST, "(0..6).find(|&l| side(angles[l]) == 6).or((0..6).find(|&l| side(angles[l]) == 8))"),
+    ("legs counted in field order", "judge.rs", "256 * l as u32", "256 * [0, 3, 1, 4, 2, 5][l]"),
+    ("legs counted from the rear", "judge.rs", "256 * l as u32", "256 * (5 - l as u32)"),
     ("the coxa's z without 0.0 *", "judge.rs", "leg[2] + 0.0 * coxa_length + femur_x", "leg[2] + femur_x"),
     # the state after a call, and a second call on it
     ("a step leaves its last feet", "entries.rs", STATE, STATE.replace("ours.as_flattened()", "&i.f[18..36]")),

@@ -325,7 +325,11 @@ fn answer(line: &str) -> Parsed<String> {
         "ik" => {
             let (r, c) = (f.row()?, f.config()?);
             f.done()?;
-            told(inverse(&r, &c), |a| a.iter().map(|a| float(a.coxa) + &float(a.femur) + &float(a.tibia)).collect())
+            match inverse(&r, &c) {
+                Err((n, Some(leg))) => format!("R {n} {leg}"),
+                Err((n, None)) => format!("R {n}"),
+                Ok(a) => "ok".to_string() + &a.map(|a| float(a.coxa) + &float(a.femur) + &float(a.tibia)).concat(),
+            }
         }
         "fk" => {
             let (r, c) = (f.row()?, f.config()?);

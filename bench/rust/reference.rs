@@ -565,6 +565,7 @@ fn alpha(a: f32, b: f32, c: f32) -> f32 {
     (-1_f32).max((1_f32).min(upper / bottom)).acos()
 }
 
+/// One leg; a refusal says the side.
 fn ik_leg(target: &Point, body: &Config, leg: &LegConfig) -> Result<Angles, Refusal> {
     let v = Point { x: target.x - leg.position.x, y: target.y - leg.position.y, z: target.z - leg.position.z };
     let target_angle = v.y.atan2(v.x) + leg.angle_offset;
@@ -573,8 +574,11 @@ fn ik_leg(target: &Point, body: &Config, leg: &LegConfig) -> Result<Angles, Refu
     let by_tibia = alpha(reach, body.femur_length, body.tibia_length);
     let by_femur = alpha(body.tibia_length, body.femur_length, reach);
     let ground = horizontal.atan2(-v.z);
-    if target_angle >= 90_f32.to_radians() || target_angle <= (-90_f32).to_radians() {
+    if target_angle >= 90_f32.to_radians() {
         return Err(6);
+    }
+    if target_angle <= (-90_f32).to_radians() {
+        return Err(8);
     }
     Ok(Angles {
         coxa: 150_f32.to_radians() + target_angle,
@@ -583,14 +587,17 @@ fn ik_leg(target: &Point, body: &Config, leg: &LegConfig) -> Result<Angles, Refu
     })
 }
 
-pub fn inverse(feet: &Row, config: &Config) -> Result<[Angles; 6], Refusal> {
+/// A refusal and, where it names one, the leg's place in a row.
+pub type LegRefusal = (Refusal, Option<usize>);
+
+pub fn inverse(feet: &Row, config: &Config) -> Result<[Angles; 6], LegRefusal> {
     let mut d = Door::new();
     d.row(&FOOT, feet);
     config.seen(&mut d);
-    d.open()?;
+    d.open().map_err(|n| (n, None))?;
     let mut r = [Angles { coxa: 0.0, femur: 0.0, tibia: 0.0 }; 6];
     for l in 0..6 {
-        r[l] = ik_leg(&feet[l], config, &config.legs[l])?;
+        r[l] = ik_leg(&feet[l], config, &config.legs[l]).map_err(|n| (n, Some(l)))?;
     }
     Ok(r)
 }

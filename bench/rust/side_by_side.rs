@@ -176,7 +176,7 @@ mod theirs {
                 store(&r.map(|a| Point { x: a.coxa, y: a.femur, z: a.tibia }), out);
                 0
             }
-            Err(n) => n,
+            Err((n, leg)) => n + 256 * leg.unwrap_or(0) as u32,
         }
     }
     #[inline(never)]
@@ -435,6 +435,25 @@ fn main() {
         1.0,
         |i| unsafe { kept(ours::probe_ik(poses[i].as_ptr(), 59, row.as_mut_ptr(), 18)) },
         |i| kept(theirs::ik(&poses[i], &mut other)),
+    );
+    // one leg is turned past its limit, each leg in its turn, to either side; a rear leg's turn is permitted to one side alone
+    let past: Vec<Vec<f32>> = poses
+        .iter()
+        .enumerate()
+        .map(|(i, s)| {
+            let (mut s, l) = (s.clone(), i % 6);
+            let leftwards = l == 4 || (l != 5 && i / 6 % 2 == 0);
+            s[26 + 6 * l] += if leftwards { 2.0 } else { -2.0 };
+            assert_eq!(theirs::ik(&s, &mut [0.0; 18]), if leftwards { 6 } else { 8 } + 256 * l as u32);
+            s
+        })
+        .collect();
+    both(
+        "inverse kinematics, refused",
+        1.0,
+        1.0,
+        |i| unsafe { kept(ours::probe_ik(past[i].as_ptr(), 59, row.as_mut_ptr(), 18)) },
+        |i| kept(theirs::ik(&past[i], &mut other)),
     );
     let joints: Vec<Vec<f32>> = poses
         .iter()

@@ -24,4 +24,5 @@ mod Ranges
 mod Tabled
 pub mod Bands
 pub mod Bounds
+pub mod Examples
 mod Answers

@@ -31,6 +31,14 @@ fn relaxed() -> Feet {
     }
 }
 
+// The same, but for the right middle foot, which is on the left side.
+fn crossed() -> Feet {
+    let mut feet = relaxed();
+    let left = at(0.0, 0.19);
+    feet.right_middle = left;
+    feet
+}
+
 fn at(x: f32, y: f32) -> Point {
     Point {
         x: x,
@@ -114,6 +122,7 @@ fn solve(feet: Feet) {
     match hopper::joints::calculate_ik(feet, crawler()) {
         Solution::Solved(joints) => show(joints),
         Solution::Refused(n) => refused(n),
+        Solution::LegRefused(n, leg) => leg_refused(n, leg),
     }
 }
 
@@ -159,6 +168,15 @@ fn refused(n: u32) {
     say(b"\n");
 }
 
+// A leg is named by its place in a row of feet: left front, right front, left middle, right middle, left rear, right rear.
+fn leg_refused(n: u32, leg: u32) {
+    say(b"refused: ");
+    io::print_decimal(STDOUT_FILENO, n as u64);
+    say(b", leg ");
+    io::print_decimal(STDOUT_FILENO, leg as u64);
+    say(b"\n");
+}
+
 fn say(text: &[u8]) {
     io::write_all(STDOUT_FILENO, text);
 }
@@ -168,4 +186,6 @@ fn main() {
     // a stick that is not there, and one that is turned too far
     driven(0.0 / 0.0, 0.0, 0.0);
     driven(0.035, 0.0, 5.0);
+    // the right middle foot on the left side
+    solve(crossed());
 }

@@ -1,23 +1,29 @@
--- What upper rooms may cite of the solvers: where joints are told, each leg's angles are those of its own foot; a cut quotient.
-use mathlib.Core.Path.{_≡_, refl, ap, _∙_}
+-- What upper rooms may cite of the solvers. Where joints are told, each leg's angles are those of its own foot, and no leg is past its
+-- limit; a leg is named exactly where it is the first that is past its limit, with the number of that side. A cut quotient.
+use mathlib.Core.Path.{_≡_, refl, sym, ap, ap₂, _∙_, subst}
 use mathlib.Core.Bool.{Bool, true, false}
 use mathlib.Core.List.{[], _∷_}
-use Prim.Native.Nat.{ℕ}
+use mathlib.Core.Logic.{_⊎_, inl, inr, _↔_}
+use Prim.Native.Nat.{ℕ, suc, _<_}
+use native.Mathlib.Omega.{arith}
 use lib.Dec.{eqb}
+use lib.ListN.{length}
 use lib.Ieee.{nan, lt, ofBits, neg}
-use Rattle.numbers.specs.Told.{refused, choose}
-use Rattle.numbers.specs.Door.{when, firstOf}
+use borrow.Author.Tests.{eq-eqb, eqb-true}
+use Rattle.numbers.specs.Told.{Told, refused, choose}
 use Rattle.legs.specs.Legs.{Leg, leftFront, rightFront, leftMiddle, rightMiddle, leftRear, rightRear}
 use Rattle.legs.specs.Legs.{row, foot, angles, joints, jointsOf, values}
 use Rattle.legs.specs.declared.Feet.{Feet}
 use Rattle.legs.specs.declared.LegAngles.{LegAngles}
 use Rattle.legs.specs.declared.Joints.{Joints}
-use Rattle.joints.specs.Answers.{givenJoints, told}
+use Rattle.joints.specs.Answers.{givenJoints, legNumber, legRefused, firstLeg, told}
 use Rattle.joints.specs.Configured.{leg}
-use Rattle.joints.specs.Inverse.{one, cut, legAngles, ikRefusal, pastLimit, ikTold}
-use Rattle.joints.specs.declared.Solution.the-variants.{Solved}
+use Rattle.joints.specs.Inverse.{one, cut, coxaOf, legAngles, ikRefusal, sideRefusal, ikTold}
+use Rattle.joints.specs.declared.Solution.the-variants.{Solved, LegRefused}
 use Rattle.joints.specs.declared.configuration.Configuration.{Configuration}
-use Rattle.joints.proofs.OneAnswer.{floats, joints-from-values}
+use Rattle.joints.proofs.OneAnswer.{floats, marked, joints-from-values}
+use Rattle.joints.proofs.FirstLeg.{First, AllPass, OneNamed, first-leg, the-first}
+use Rattle.joints.proofs.Sides.{PastSide, Short, past-side, short, a-number, refused-at, passed-at}
 
 angles-of-joints : (g : Leg → LegAngles) (l : Leg) → angles (joints g) l ≡ g l
 angles-of-joints g leftFront = refl
@@ -27,20 +33,113 @@ angles-of-joints g rightMiddle = refl
 angles-of-joints g leftRear = refl
 angles-of-joints g rightRear = refl
 
-only-joints : (i j : Joints) (n : ℕ) (t : Bool) → givenJoints i ≡ choose t (givenJoints j) (refused n) → i ≡ j
-only-joints i j n true e = joints-from-values i j (floats e)
-only-joints i j n false e = let v : values jointsOf (row (angles i)) ≡ [] = floats e in cc
+not-none : (n : ℕ) → suc n ≡ 0 → ⊥
+not-none n h = omega (arith, h)
 
-pub solved-leg :
-    (f : Feet) (c : Configuration) (j : Joints)
-    → told (Solved j) ≡ ikTold f c
-    → (l : Leg)
-    → angles j l ≡ legAngles (foot f l) (c .body) (leg c l)
-unfolding ikTold
-solved-leg f c j e l =
-    let g : Leg → LegAngles = λ k. legAngles (foot f k) (c .body) (leg c k) in
-    let n = firstOf (ikRefusal f c ∷ when (pastLimit f c) 6 ∷ []) in
-    ap (λ (i : Joints). angles i l) (only-joints j (joints g) n (eqb n 0) e) ∙ angles-of-joints g l
+module _ (f : Feet) (c : Configuration) where
+  abbrev own : Leg → LegAngles
+  own l = legAngles (foot f l) (c .body) (leg c l)
+
+  abbrev solution : Told
+  solution = givenJoints (joints own)
+
+  abbrev legs-say : Told
+  legs-say = firstLeg (row (sideRefusal f c)) 0 solution
+
+  -- what is told and is no refusal of the door's, the legs say
+  past-the-door :
+      (t : Told) (n : ℕ) (b : Bool)
+      → eqb n 0 ≡ b
+      → (t ≡ refused n → ⊥)
+      → t ≡ choose b legs-say (refused n)
+      → (n ≡ 0) × (t ≡ legs-say)
+  past-the-door t n true e other h = (eqb-true n 0 e, h)
+  past-the-door t n false e other h = absurd (other h)
+
+  -- joints have floats, which no refusal has, and a leg's refusal has a mark
+  with-floats : (j : Joints) (t : Told) → t .values ≡ [] → givenJoints j ≡ t → ⊥
+  with-floats j t none h = not-none 17 (ap length (floats h ∙ none))
+
+  with-a-mark : (n k : ℕ) (t : Told) → t .marks ≡ [] → legRefused n k ≡ t → ⊥
+  with-a-mark n k t none h = not-none 0 (ap length (marked h ∙ none))
+
+  solved : (j : Joints) → told (Solved j) ≡ ikTold f c → ((l : Leg) → sideRefusal f c l ≡ 0) × (j ≡ joints own)
+  unfolding ikTold
+  solved j e =
+      let n = ikRefusal f c in
+      by-first (first-leg (sideRefusal f c) solution)
+      (past-the-door (givenJoints j) n (eqb n 0) refl (with-floats j (refused n) refl) e .1)
+    where
+      by-first : AllPass (sideRefusal f c) solution ⊎ OneNamed (sideRefusal f c) solution
+          → givenJoints j ≡ legs-say
+          → ((l : Leg) → sideRefusal f c l ≡ 0) × (j ≡ joints own)
+      by-first (inl (p, q)) h = (p, joints-from-values j (joints own) (floats (h ∙ q)))
+      by-first (inr (l, F, q)) h = absurd (with-floats j (legRefused (sideRefusal f c l) (legNumber l)) refl (h ∙ q))
+
+  -- ---- where joints are told
+  pub solved-leg : (j : Joints) → told (Solved j) ≡ ikTold f c → (l : Leg) → angles j l ≡ legAngles (foot f l) (c .body) (leg c l)
+  solved-leg j e l = ap (λ (i : Joints). angles i l) (solved j e .1) ∙ angles-of-joints own l
+
+  pub no-leg-past : (j : Joints) → told (Solved j) ≡ ikTold f c → (l : Leg) → Short (coxaOf f c l)
+  unfolding sideRefusal
+  no-leg-past j e l = short (coxaOf f c l) (solved j e .0 l)
+
+  -- ---- where a leg is named: the door let all in, this leg is past its limit on the number's side, and no leg before it in row order is
+  -- past its limit on either
+  pub record FirstPast (n k : ℕ) : Type 0 where
+    pub let-in : ikRefusal f c ≡ 0
+    pub which : Leg
+    pub number : legNumber which ≡ k
+    pub past : PastSide n (coxaOf f c which)
+    pub before : (m : Leg) → legNumber m < k → Short (coxaOf f c m)
+
+  answers : (n k : ℕ) → told (LegRefused n k) ≡ ikTold f c → FirstPast n k
+  unfolding ikTold sideRefusal
+  answers n k e =
+      let r = ikRefusal f c in
+      let (open-door, h) = past-the-door (legRefused n k) r (eqb r 0) refl (with-a-mark n k (refused r) refl) e in
+      by-first (first-leg (sideRefusal f c) solution) open-door h
+    where
+      by-first : AllPass (sideRefusal f c) solution ⊎ OneNamed (sideRefusal f c) solution
+          → ikRefusal f c ≡ 0
+          → legRefused n k ≡ legs-say
+          → FirstPast n k
+      by-first (inl (p, q)) d h = absurd (with-a-mark n k solution refl (h ∙ q))
+      by-first (inr (l, F, q)) d h =
+          let same-number : n ≡ sideRefusal f c l = ap (λ (t : Told). t .number) (h ∙ q) in
+          let same-mark : k ∷ [] ≡ legNumber l ∷ [] = marked (h ∙ q) in
+          let same-leg : legNumber l ≡ k = cc in
+          record {
+            let-in = d;
+            which = l;
+            number = same-leg;
+            past = subst (λ (i : ℕ). PastSide i (coxaOf f c l)) (sym same-number) (past-side (coxaOf f c l) (F .refused));
+            before = λ m b. short (coxaOf f c m) (F .before m (omega (arith, b, same-leg)));
+          }
+
+  answered-so : (n k : ℕ) → FirstPast n k → told (LegRefused n k) ≡ ikTold f c
+  unfolding ikTold sideRefusal
+  answered-so n k P =
+      let number : sideRefusal f c (P .which) ≡ n = refused-at (coxaOf f c (P .which)) n (P .past) in
+      rw (eq-eqb (ikRefusal f c) 0 (P .let-in))
+      (sym (the-first (sideRefusal f c) solution (P .which) first ∙ ap₂ legRefused number (P .number)))
+    where
+      first : First (sideRefusal f c) (P .which)
+      first =
+          record {
+            refused = λ z. a-number (coxaOf f c (P .which)) n (P .past) (sym (refused-at (coxaOf f c (P .which)) n (P .past)) ∙ z);
+            before = λ m h. passed-at (coxaOf f c m) (P .before m (omega (arith, h, P .number)));
+          }
+
+  pub first-leg-answers : (n k : ℕ) → (told (LegRefused n k) ≡ ikTold f c) ↔ FirstPast n k
+  first-leg-answers n k = (answers n k, answered-so n k)
+
+  -- no second pair of number and leg fits
+  pub no-second-pair : (n k m l : ℕ) → FirstPast n k → FirstPast m l → (n ≡ m) × (k ≡ l)
+  no-second-pair n k m l P Q =
+      let same : legRefused n k ≡ legRefused m l = answered-so n k P ∙ sym (answered-so m l Q) in
+      let same-mark : k ∷ [] ≡ l ∷ [] = marked same in
+      (ap (λ (t : Told). t .number) same, cc)
 
 -- a NaN quotient becomes 1
 pub cut-nan : cut nan ≡ one

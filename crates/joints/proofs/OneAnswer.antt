@@ -8,7 +8,7 @@ use Rattle.legs.specs.Legs.{row, angles, jointsOf, values}
 use Rattle.legs.specs.declared.Joints.{Joints}
 use Rattle.joints.specs.Answers.{told, toldLegs}
 use Rattle.joints.specs.declared.Solution.{Solution}
-use Rattle.joints.specs.declared.Solution.the-variants.{Solved, Refused}
+use Rattle.joints.specs.declared.Solution.the-variants.{Solved, Refused, LegRefused}
 use Rattle.joints.specs.declared.core.LegsSolved.{LegsSolved}
 use Rattle.joints.specs.declared.core.LegsSolved.the-variants.{Joints as AllAngles, Past}
 
@@ -31,11 +31,22 @@ joints-from-values i j e = ap joints-of e
 pub floats : {t u : Told} → t ≡ u → t .values ≡ u .values
 floats e = ap (λ (t : Told). t .values) e
 
+pub marked : {t u : Told} → t ≡ u → t .marks ≡ u .marks
+marked e = ap (λ (t : Told). t .marks) e
+
+-- a leg's mark tells the refusals that name one from those that name none
 pub told-loses-nothing : (a b : Solution) → told a ≡ told b → a ≡ b
 told-loses-nothing (Solved i) (Solved j) e = ap Solved (joints-from-values i j (floats e))
 told-loses-nothing (Solved i) (Refused n) e = let v : values jointsOf (row (angles i)) ≡ [] = floats e in cc
+told-loses-nothing (Solved i) (LegRefused n k) e = let v : values jointsOf (row (angles i)) ≡ [] = floats e in cc
 told-loses-nothing (Refused n) (Solved j) e = let v : [] ≡ values jointsOf (row (angles j)) = floats e in cc
 told-loses-nothing (Refused n) (Refused m) e = ap Refused (ap (λ (t : Told). t .number) e)
+told-loses-nothing (Refused n) (LegRefused m k) e = let v : [] ≡ k ∷ [] = marked e in cc
+told-loses-nothing (LegRefused n k) (Solved j) e = let v : [] ≡ values jointsOf (row (angles j)) = floats e in cc
+told-loses-nothing (LegRefused n k) (Refused m) e = let v : k ∷ [] ≡ [] = marked e in cc
+told-loses-nothing (LegRefused n k) (LegRefused m l) e =
+    let v : k ∷ [] ≡ l ∷ [] = marked e in
+    ap₂ LegRefused (ap (λ (t : Told). t .number) e) (cc)
 
 pub toldLegs-loses-nothing : (a b : LegsSolved) → toldLegs a ≡ toldLegs b → a ≡ b
 unfolding toldLegs
@@ -43,5 +54,5 @@ toldLegs-loses-nothing (AllAngles i) (AllAngles j) e = ap AllAngles (joints-from
 toldLegs-loses-nothing (AllAngles i) (Past l s) e = let v : values jointsOf (row (angles i)) ≡ [] = floats e in cc
 toldLegs-loses-nothing (Past l s) (AllAngles j) e = let v : [] ≡ values jointsOf (row (angles j)) = floats e in cc
 toldLegs-loses-nothing (Past l s) (Past k t) e =
-    let m : l ∷ s ∷ [] ≡ k ∷ t ∷ [] = ap (λ (t : Told). t .marks) e in
+    let m : l ∷ s ∷ [] ≡ k ∷ t ∷ [] = marked e in
     ap₂ Past (cc) (cc)

@@ -1,64 +1,92 @@
--- What the core tells of six legs, and refusal 6 exactly where a leg's computed coxa angle is at or past 90 degrees either way.
+-- What the core tells of six legs, and what the entry makes of it: refusal 6 or 8 with the first leg in row order that is past its limit.
 use mathlib.Core.Path.{_≡_, refl, ap, _∙_}
-use mathlib.Core.Bool.{Bool, true, false, _||_}
-use mathlib.Core.List.{[], _∷_}
-use Prim.Native.Nat.{ℕ}
+use mathlib.Core.Bool.{Bool, true, false}
+use mathlib.Core.List.{List, [], _∷_, map}
+use Prim.Native.Nat.{ℕ, suc}
 use lib.Dec.{eqb}
-use Rattle.numbers.specs.Told.{Told, choose, answer}
+use lib.Ieee.{Float}
+use Rattle.numbers.specs.Told.{Told, choose}
 use Rattle.numbers.specs.Door.{when, firstOf}
 use Rattle.legs.specs.Legs.{Leg, leftFront, rightFront, leftMiddle, rightMiddle, leftRear, rightRear, row, foot, joints}
 use Rattle.legs.specs.declared.Feet.{Feet}
 use Rattle.legs.specs.declared.Joints.{Joints}
 use Rattle.joints.specs.Configured.{leg}
-use Rattle.joints.specs.Answers.{told, toldPast, toldLegs, givenJoints}
-use Rattle.joints.specs.Inverse.{pastPositive, pastNegative, coxaAngle, legAngles, pastLimit}
+use Rattle.joints.specs.Answers.{told, sideNumber, toldPast, toldLegs, givenJoints, legRefused, firstLeg}
+use Rattle.joints.specs.Inverse.{pastPositive, pastNegative, coxaOf, legAngles, sideRefusal}
 use Rattle.joints.specs.How.{heading, solvedAngles, sideOf, earlier, firstPast, answered, legsTold}
 use Rattle.joints.specs.declared.configuration.Configuration.{Configuration}
 use Rattle.joints.specs.declared.core.PastLeg.{PastLeg}
 use Rattle.joints.specs.declared.core.LegsSolved.{LegsSolved}
 use Rattle.joints.specs.declared.core.LegsSolved.the-variants.{Joints as AllAngles, Past}
 
--- ---- an answer that names no leg
-abbrev nameless : Told → Told
-nameless t = record { number = t .number; marks = []; values = t .values }
+-- ---- an answer that names the leg alone
+abbrev first-mark : List ℕ → List ℕ
+first-mark [] = []
+first-mark (k ∷ ks) = k ∷ []
 
-answered-nameless : (s : LegsSolved) → told (answered s) ≡ nameless (toldLegs s)
+abbrev sideless : Told → Told
+sideless t = record { number = t .number; marks = first-mark (t .marks); values = t .values }
+
+answered-sideless : (s : LegsSolved) → told (answered s) ≡ sideless (toldLegs s)
 unfolding toldLegs
-answered-nameless (AllAngles j) = refl
-answered-nameless (Past l s) = refl
+answered-sideless (AllAngles j) = refl
+answered-sideless (Past l s) = refl
 
--- ---- six legs by their twelve tests
-abbrev side : Bool → Bool → ℕ
-side u w = firstOf (when u 1 ∷ when w 2 ∷ [])
+-- ---- the first leg by its side is the first by its refusal
+abbrev numbered : ℕ → ℕ
+numbered side = choose (eqb side 0) 0 (sideNumber side)
 
-abbrev chosen : PastLeg → Joints → Told
-chosen p j = choose (eqb (p .side) 0) (givenJoints j) (toldPast (p .leg) (p .side))
+abbrev all-numbered : List ℕ → List ℕ
+all-numbered [] = []
+all-numbered (n ∷ ns) = numbered n ∷ all-numbered ns
 
-chain :
-    (j : Joints) (u₀ w₀ u₁ w₁ u₂ w₂ u₃ w₃ u₄ w₄ u₅ w₅ : Bool)
-    → nameless (chosen (firstPast (side u₀ w₀ ∷ side u₁ w₁ ∷ side u₂ w₂ ∷ side u₃ w₃ ∷ side u₄ w₄ ∷ side u₅ w₅ ∷ []) 0) j)
-    ≡ answer (when ((u₀ || w₀) || (u₁ || w₁) || (u₂ || w₂) || (u₃ || w₃) || (u₄ || w₄) || (u₅ || w₅)) 6) (givenJoints j)
-unfolding earlier firstPast
-chain j true w₀ u₁ w₁ u₂ w₂ u₃ w₃ u₄ w₄ u₅ w₅ = refl
-chain j false true u₁ w₁ u₂ w₂ u₃ w₃ u₄ w₄ u₅ w₅ = refl
-chain j false false true w₁ u₂ w₂ u₃ w₃ u₄ w₄ u₅ w₅ = refl
-chain j false false false true u₂ w₂ u₃ w₃ u₄ w₄ u₅ w₅ = refl
-chain j false false false false true w₂ u₃ w₃ u₄ w₄ u₅ w₅ = refl
-chain j false false false false false true u₃ w₃ u₄ w₄ u₅ w₅ = refl
-chain j false false false false false false true w₃ u₄ w₄ u₅ w₅ = refl
-chain j false false false false false false false true u₄ w₄ u₅ w₅ = refl
-chain j false false false false false false false false true w₄ u₅ w₅ = refl
-chain j false false false false false false false false false true u₅ w₅ = refl
-chain j false false false false false false false false false false true w₅ = refl
-chain j false false false false false false false false false false false true = refl
-chain j false false false false false false false false false false false false = refl
+module _ (j : Joints) where
+  abbrev chosen : PastLeg → Told
+  chosen p = choose (eqb (p .side) 0) (givenJoints j) (toldPast (p .leg) (p .side))
+
+  one-leg : (n k : ℕ) (later : PastLeg) (rest : Told) (t u : Bool) → eqb n 0 ≡ t → eqb n 1 ≡ u
+      → sideless (chosen later) ≡ rest
+      → sideless (chosen (earlier n k later)) ≡ choose (eqb (numbered n) 0) rest (legRefused (numbered n) k)
+  unfolding earlier
+  one-leg n k later rest true u e d h = simp (e, h)
+  one-leg n k later rest false true e d h = simp (e, d)
+  one-leg n k later rest false false e d h = simp (e, d)
+
+  in-order : (ns : List ℕ) (k : ℕ) → sideless (chosen (firstPast ns k)) ≡ firstLeg (all-numbered ns) k (givenJoints j)
+  unfolding firstPast
+  in-order [] k = refl
+  in-order (n ∷ ns) k = one-leg n k (firstPast ns (suc k)) _ (eqb n 0) (eqb n 1) refl refl (in-order ns (suc k))
+
+-- a side's number is the refusal
+by-tests : (u w : Bool) → numbered (firstOf (when u 1 ∷ when w 2 ∷ [])) ≡ firstOf (when u 6 ∷ when w 8 ∷ [])
+by-tests true w = refl
+by-tests false true = refl
+by-tests false false = refl
 
 module _ (f : Feet) (c : Configuration) where
   abbrev all-joints : Joints
   all-joints = joints (λ l. legAngles (foot f l) (c .body) (leg c l))
 
+  abbrev sides : List ℕ
+  sides = row (λ l. sideOf (coxaOf f c l))
+
   abbrev pub first : PastLeg
-  first = firstPast (row (λ l. sideOf (coxaAngle (foot f l) (leg c l)))) 0
+  first = firstPast sides 0
+
+  refusal-of-side : (l : Leg) → numbered (sideOf (coxaOf f c l)) ≡ sideRefusal f c l
+  unfolding sideOf sideRefusal
+  refusal-of-side l = by-tests (pastPositive (coxaOf f c l)) (pastNegative (coxaOf f c l))
+
+  six : all-numbered sides ≡ row (sideRefusal f c)
+  six =
+      simp (
+        refusal-of-side leftFront,
+        refusal-of-side rightFront,
+        refusal-of-side leftMiddle,
+        refusal-of-side rightMiddle,
+        refusal-of-side leftRear,
+        refusal-of-side rightRear,
+      )
 
   -- ---- the core: no leg is past its limit, and each is solved as it set out; or the first that is
   pub told-joints :
@@ -78,13 +106,10 @@ module _ (f : Feet) (c : Configuration) where
   pub told-answered :
       (s : LegsSolved)
       → toldLegs s ≡ legsTold f c
-      → told (answered s) ≡ answer (when (pastLimit f c) 6) (givenJoints all-joints)
-  unfolding sideOf legsTold pastLimit
+      → told (answered s) ≡ firstLeg (row (sideRefusal f c)) 0 (givenJoints all-joints)
+  unfolding legsTold
   told-answered s e =
-      let u : Leg → Bool = λ l. pastPositive (coxaAngle (foot f l) (leg c l)) in
-      let w : Leg → Bool = λ l. pastNegative (coxaAngle (foot f l) (leg c l)) in
-      answered-nameless s
-      ∙ ap nameless e
-      ∙ chain all-joints
-      (u leftFront) (w leftFront) (u rightFront) (w rightFront) (u leftMiddle) (w leftMiddle)
-      (u rightMiddle) (w rightMiddle) (u leftRear) (w leftRear) (u rightRear) (w rightRear)
+      answered-sideless s
+      ∙ ap sideless e
+      ∙ in-order all-joints sides 0
+      ∙ ap (λ (ns : List ℕ). firstLeg ns 0 (givenJoints all-joints)) six

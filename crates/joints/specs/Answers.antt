@@ -1,12 +1,13 @@
--- Document 01's number and values for each case of an answer on joints. A leg past its limit is refusal 6; the core's marks for it are the
--- leg, 0 to 5 in row order, and the side: 1 at 90 degrees or more, 2 at -90 degrees or less.
-use Prim.Native.Nat.{ℕ}
-use mathlib.Core.List.{[], _∷_}
-use Rattle.numbers.specs.Told.{Told, refused, given}
-use Rattle.legs.specs.Legs.{row, angles, jointsOf, values}
+-- Document 01's number and values for each case of an answer on joints, and request K2's: "both name the leg, 0 to 5 in 01's row order".
+-- The leg is the one mark of such a refusal.
+use Prim.Native.Nat.{ℕ, suc}
+use mathlib.Core.List.{List, [], _∷_}
+use lib.Dec.{eqb}
+use Rattle.numbers.specs.Told.{Told, refused, given, choose}
+use Rattle.legs.specs.Legs.{Leg, leftFront, rightFront, leftMiddle, rightMiddle, leftRear, rightRear, row, angles, jointsOf, values}
 use Rattle.legs.specs.declared.Joints.{Joints}
 use Rattle.joints.specs.declared.Solution.{Solution}
-use Rattle.joints.specs.declared.Solution.the-variants.{Solved, Refused}
+use Rattle.joints.specs.declared.Solution.the-variants.{Solved, Refused, LegRefused}
 use Rattle.joints.specs.declared.core.LegsSolved.{LegsSolved}
 use Rattle.joints.specs.declared.core.LegsSolved.the-variants.{Joints as AllAngles, Past}
 
@@ -14,13 +15,37 @@ use Rattle.joints.specs.declared.core.LegsSolved.the-variants.{Joints as
 abbrev pub givenJoints : Joints → Told
 givenJoints j = given [] (values jointsOf (row (angles j)))
 
+-- a leg's number, its place in a row
+abbrev pub legNumber : Leg → ℕ
+legNumber leftFront = 0
+legNumber rightFront = 1
+legNumber leftMiddle = 2
+legNumber rightMiddle = 3
+legNumber leftRear = 4
+legNumber rightRear = 5
+
+-- a refusal that names a leg
+abbrev pub legRefused : ℕ → ℕ → Told
+legRefused n k = record { number = n; marks = k ∷ []; values = [] }
+
+-- over the refusals of legs in row order, from the k-th on (0: this leg passes): the first that is not 0, with its leg, else what is given
+abbrev pub firstLeg : List ℕ → ℕ → Told → Told
+firstLeg [] k t = t
+firstLeg (n ∷ ns) k t = choose (eqb n 0) (firstLeg ns (suc k) t) (legRefused n k)
+
 abbrev pub told : Solution → Told
 told (Solved j) = givenJoints j
 told (Refused n) = refused n
+told (LegRefused n k) = legRefused n k
 
--- a leg that is past its limit, with its side
+-- ---- the core's: a leg that is past its limit, and its side, 1 at 90 degrees or more, 2 at -90 degrees or less. It has two marks, the leg
+-- and the side, so that nothing of it is lost
+-- 6 at 90 degrees or more, 8 at -90 degrees or less
+abbrev pub sideNumber : ℕ → ℕ
+sideNumber side = choose (eqb side 1) 6 8
+
 abbrev pub toldPast : ℕ → ℕ → Told
-toldPast leg side = record { number = 6; marks = leg ∷ side ∷ []; values = [] }
+toldPast leg side = record { number = sideNumber side; marks = leg ∷ side ∷ []; values = [] }
 
 unfoldable pub toldLegs : LegsSolved → Told
 toldLegs (AllAngles j) = givenJoints j

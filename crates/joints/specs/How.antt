@@ -11,11 +11,11 @@ use Rattle.legs.specs.declared.Point.{Point}
 use Rattle.legs.specs.declared.Feet.{Feet}
 use Rattle.legs.specs.declared.LegAngles.{LegAngles}
 use Rattle.joints.specs.Configured.{leg}
-use Rattle.joints.specs.Answers.{givenJoints, toldPast}
+use Rattle.joints.specs.Answers.{givenJoints, sideNumber, toldPast}
 use Rattle.joints.specs.Inverse.{relativeVector, coxaAngle, horizontalDistance, distance, motorAngles, legAngles}
 use Rattle.joints.specs.Inverse.{pastPositive, pastNegative}
 use Rattle.joints.specs.declared.Solution.{Solution}
-use Rattle.joints.specs.declared.Solution.the-variants.{Solved, Refused}
+use Rattle.joints.specs.declared.Solution.the-variants.{Solved, LegRefused}
 use Rattle.joints.specs.declared.configuration.Body.{Body}
 use Rattle.joints.specs.declared.configuration.LegConfiguration.{LegConfiguration}
 use Rattle.joints.specs.declared.configuration.Configuration.{Configuration}
@@ -60,10 +60,10 @@ unfoldable pub pastBy : Float → Float → Float → Float → Float → Float 
 pastBy a b c d e f = firstPast (sideOf a ∷ sideOf b ∷ sideOf c ∷ sideOf d ∷ sideOf e ∷ sideOf f ∷ []) 0
 
 -- ---- telling
--- a leg past its limit is refusal 6
+-- a leg past its limit is refusal 6 or 8, by its side
 abbrev pub answered : LegsSolved → Solution
 answered (AllAngles j) = Solved j
-answered (Past l s) = Refused 6
+answered (Past l s) = LegRefused (sideNumber s) l
 
 -- six legs: the first that is past its limit, else their angles
 unfoldable pub legsTold : Feet → Configuration → Told

@@ -1,7 +1,7 @@
 -- Document 01, "Joints": the joint angles of six feet. Formulas, order of operations and of legs, and names as in the source, over our four
 -- functions and root.
 use Prim.Native.Nat.{ℕ}
-use mathlib.Core.Bool.{Bool, _&&_, _||_}
+use mathlib.Core.Bool.{Bool, _&&_}
 use mathlib.Core.List.{[], _∷_}
 use lib.Ieee.{Float, binary32, ofBits, add, sub, mul, div, neg, le}
 use Rattle.numbers.specs.Told.{Told, answer}
@@ -10,14 +10,14 @@ use Rattle.numbers.specs.Limits.{footLimit}
 use Rattle.numbers.specs.Finite.{magnitude, lesser, greater}
 use Rattle.roots.specs.Root.{squareRoot}
 use Rattle.arcs.specs.How.{arcCosine, atan2}
-use Rattle.legs.specs.Legs.{foot, joints, some, finiteFeet, permittedFeet}
+use Rattle.legs.specs.Legs.{Leg, row, foot, joints, finiteFeet, permittedFeet}
 use Rattle.legs.specs.Vectors.{minus}
 use Rattle.legs.specs.declared.Point.{Point}
 use Rattle.legs.specs.declared.Feet.{Feet}
 use Rattle.legs.specs.declared.LegAngles.{LegAngles}
 use Rattle.joints.specs.Configured.{leg, finiteConfiguration, permittedConfiguration}
 use Rattle.joints.specs.Degrees.{ninety, minusNinety, oneFifty}
-use Rattle.joints.specs.Answers.{givenJoints}
+use Rattle.joints.specs.Answers.{givenJoints, firstLeg}
 use Rattle.joints.specs.declared.configuration.Body.{Body}
 use Rattle.joints.specs.declared.configuration.LegConfiguration.{LegConfiguration}
 use Rattle.joints.specs.declared.configuration.Configuration.{Configuration}
@@ -98,11 +98,17 @@ ikRefusal f c =
     ∷ unless (permittedFeet footLimit f && permittedConfiguration c) 2
     ∷ [])
 
--- 6: a leg's computed coxa angle is at or past 90 degrees either way
-unfoldable pub pastLimit : Feet → Configuration → Bool
-pastLimit f c = some (λ l. pastPositive (coxaAngle (foot f l) (leg c l)) || pastNegative (coxaAngle (foot f l) (leg c l)))
+-- Request K2: "refusal 6 shall mean 90 degrees or more, and a new number the other side": "8 for -90 degrees or less", of a leg's computed
+-- coxa angle
+abbrev pub coxaOf : Feet → Configuration → Leg → Float
+coxaOf f c l = coxaAngle (foot f l) (leg c l)
 
+unfoldable pub sideRefusal : Feet → Configuration → Leg → ℕ
+sideRefusal f c l = firstOf (when (pastPositive (coxaOf f c l)) 6 ∷ when (pastNegative (coxaOf f c l)) 8 ∷ [])
+
+-- the door first; then "the first failing leg in the source's order still answers", "leg order first"; else eighteen angles
 unfoldable pub ikTold : Feet → Configuration → Told
 ikTold f c =
-    answer (firstOf (ikRefusal f c ∷ when (pastLimit f c) 6 ∷ []))
-    (givenJoints (joints (λ l. legAngles (foot f l) (c .body) (leg c l))))
+    answer (ikRefusal f c)
+    (firstLeg (row (sideRefusal f c)) 0
+    (givenJoints (joints (λ l. legAngles (foot f l) (c .body) (leg c l)))))

@@ -16,10 +16,12 @@ ghost use Rattle.joints.specs.Forward.{fkRefusal, fkTold};
 pub mod configuration;
 pub mod core;
 
-// What the solver answers: eighteen joint angles, or why not.
+// What the solver answers: eighteen joint angles, or why not; where a leg is past its limit, the refusal's number and the leg,
+// 0 to 5 in row order.
 pub enum Solution {
     Solved(Joints),
     Refused(u32),
+    LegRefused(u32, u32),
 }
 
 // Why feet are refused at the door: the lowest number that applies, or 0.
@@ -35,13 +37,19 @@ pub fn ik_refused(feet: Feet, config: Configuration) -> u32
     }
 }
 
-// Refusal 6 for a leg past the limit on either side.
+// A leg past its limit is named: refusal 6 at 90 degrees or more, 8 at -90 degrees or less.
 fn answered(legs: core::LegsSolved) -> Solution
     ensures { λ r. ⌜ r ≡ answered legs ⌝ }
 {
     match legs {
         core::LegsSolved::Joints(joints) => Solution::Solved(joints),
-        core::LegsSolved::Past(_, _) => Solution::Refused(6),
+        core::LegsSolved::Past(leg, side) => {
+            if side == 1 {
+                Solution::LegRefused(6, leg)
+            } else {
+                Solution::LegRefused(8, leg)
+            }
+        }
     }
 }
 

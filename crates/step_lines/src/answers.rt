@@ -80,10 +80,11 @@ pub fn should(a: ShouldMove) -> Words {
     }
 }
 
-// Eighteen joint angles.
+// Eighteen joint angles; a leg that is refused, after the number.
 pub fn solution(a: Solution) -> Words {
     match a {
         Solution::Solved(j) => said::joints(words::ok(), j),
         Solution::Refused(n) => words::refused(n),
+        Solution::LegRefused(n, leg) => words::decimal(words::refused(n), leg),
     }
 }

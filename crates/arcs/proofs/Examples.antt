@@ -1,0 +1,34 @@
+-- Angles by computation, as the joint solver meets them: of what lies straight ahead, straight to the left, to the left and back, and to
+-- the right and back. Straight to the left is 3fc90fda, one place under the f32 of 90 degrees.
+use mathlib.Core.Path.{_≡_, refl}
+use Prim.Native.Nat.{ℕ}
+use lib.Ieee.{Float, binary32, ofBits, units, round}
+use Rattle.numbers.specs.Door.{finite}
+use Rattle.units.specs.Units.{mag, hi, lo}
+use Rattle.arc_rows.specs.ArcTangent.{arcTangent}
+use Rattle.arcs.specs.Wedges.{signBit}
+use Rattle.arcs.specs.How.{lean, slope, sharp, wide, angle, ratio, inRadians, finiteAtan2, atan2}
+
+-- the angle of (x, y), all by their bits
+abbrev Angle : ℕ → ℕ → ℕ → Type 0
+Angle x y a = atan2 (ofBits binary32 y) (ofBits binary32 x) ≡ ofBits binary32 a
+
+computed :
+    Angle 0x3e80_0000 0 0
+    × Angle 0 0x3f80_0000 0x3fc9_0fda
+    × Angle 0xbe00_0000 0x3e80_0000 0x4002_3454
+    × Angle 0xbe00_0000 0xbe80_0000 0xc002_3454
+unfolding atan2 finiteAtan2 inRadians angle wide sharp slope lean ratio arcTangent signBit mag hi lo units round finite ofBits
+computed = (refl, refl, refl, refl)
+
+pub straight-ahead : Angle 0x3e80_0000 0 0
+straight-ahead = computed .0
+
+pub straight-left : Angle 0 0x3f80_0000 0x3fc9_0fda
+straight-left = computed .1
+
+pub left-and-back : Angle 0xbe00_0000 0x3e80_0000 0x4002_3454
+left-and-back = computed .2
+
+pub right-and-back : Angle 0xbe00_0000 0xbe80_0000 0xc002_3454
+right-and-back = computed .3

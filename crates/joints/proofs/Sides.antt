@@ -1,0 +1,81 @@
+-- The two sides of a coxa's limit: what a leg's refusal says of its angle, and that no float is past both. Assumes nothing.
+use mathlib.Core.Path.{_≡_, refl, sym, _∙_}
+use mathlib.Core.Bool.{Bool, true, false, _&&_, _||_, true≢false}
+use mathlib.Core.List.{[], _∷_}
+use mathlib.Core.Logic.{_⊎_, inl, inr}
+use Prim.Native.Nat.{ℕ, _*_, _<_}
+use native.Mathlib.Nat.{mul-pos}
+use native.Mathlib.Omega.{arith}
+use lib.Dec.{eqb, lit<}
+use lib.Ieee.{Float, nan, inf, fin, ofBits, lt, eq, le, up, down}
+use lib.Ieee.Fits.{up-pos, down-pos}
+use borrow.Author.Tests.{eqb-true}
+use Rattle.numbers.specs.Door.{when, firstOf}
+use Rattle.joints.specs.Degrees.{ninety, minusNinety}
+use Rattle.joints.specs.Inverse.{pastPositive, pastNegative}
+
+-- past the limit on the side that the number says: 6 at 90 degrees or more, 8 at -90 degrees or less
+abbrev pub PastSide : ℕ → Float → Type 0
+PastSide n a = ((n ≡ 6) × (pastPositive a ≡ true)) ⊎ ((n ≡ 8) × (pastNegative a ≡ true))
+
+-- on neither side
+abbrev pub Short : Float → Type 0
+Short a = (pastPositive a ≡ false) × (pastNegative a ≡ false)
+
+-- ---- no float is past both: what is not negative is not at -90 degrees or less, what is negative is not at 90 degrees or more
+never-level : (x y : ℕ) (a b : Bool) → eqb x y ≡ a → eqb x 0 ≡ b → (x ≡ y → x ≡ 0 → ⊥) → (a && (false || b)) ≡ false
+never-level x y false b e d h = refl
+never-level x y true false e d h = refl
+never-level x y true true e d h = absurd (h (eqb-true x y e) (eqb-true x 0 d))
+
+left-some : (x y : ℕ) → 0 < x → (eqb x y && (false || eqb x 0)) ≡ false
+left-some x y p = never-level x y (eqb x y) (eqb x 0) refl refl (λ e z. omega (arith, p, z))
+
+right-some : (x y : ℕ) → 0 < y → (eqb x y && (false || eqb x 0)) ≡ false
+right-some x y p = never-level x y (eqb x y) (eqb x 0) refl refl (λ e z. omega (arith, p, e, z))
+
+pub never-both : (a : Float) → pastPositive a ≡ true → pastNegative a ≡ false
+unfolding ninety minusNinety ofBits le lt eq
+never-both nan h = refl
+never-both (inf false) h = refl
+never-both (inf true) h = absurd (true≢false (sym h))
+never-both (fin false m e) h = right-some (m * up e * _) (_ * down e) (mul-pos (lit< tt) (down-pos e))
+never-both (fin true m e) h = absurd (true≢false (sym h ∙ left-some (_ * down e) (m * up e * _) (mul-pos (lit< tt) (down-pos e))))
+
+-- ---- a leg's refusal and its angle
+module _ (a : Float) where
+  abbrev refusal : Bool → Bool → ℕ
+  refusal u w = firstOf (when u 6 ∷ when w 8 ∷ [])
+
+  by-tests : (u w : Bool) → pastPositive a ≡ u → pastNegative a ≡ w → (refusal u w ≡ 0 → ⊥) → PastSide (refusal u w) a
+  by-tests true w e d h = inl (refl, e)
+  by-tests false true e d h = inr (refl, d)
+  by-tests false false e d h = absurd (h refl)
+
+  neither : (u w : Bool) → refusal u w ≡ 0 → (u ≡ false) × (w ≡ false)
+  neither true w h = absurd (omega (arith, h))
+  neither false true h = absurd (omega (arith, h))
+  neither false false h = (refl, refl)
+
+  pub past-side : (refusal (pastPositive a) (pastNegative a) ≡ 0 → ⊥) → PastSide (refusal (pastPositive a) (pastNegative a)) a
+  past-side = by-tests (pastPositive a) (pastNegative a) refl refl
+
+  pub short : refusal (pastPositive a) (pastNegative a) ≡ 0 → Short a
+  short = neither (pastPositive a) (pastNegative a)
+
+  pub a-number : (n : ℕ) → PastSide n a → n ≡ 0 → ⊥
+  a-number n (inl (e, h)) z = omega (arith, e, z)
+  a-number n (inr (e, h)) z = omega (arith, e, z)
+
+  -- and back
+  at-eight : (u w : Bool) → (u ≡ true → w ≡ false) → w ≡ true → refusal u w ≡ 8
+  at-eight true w not-both h = absurd (true≢false (sym h ∙ not-both refl))
+  at-eight false true not-both h = refl
+  at-eight false false not-both h = absurd (true≢false (sym h))
+
+  pub refused-at : (n : ℕ) → PastSide n a → refusal (pastPositive a) (pastNegative a) ≡ n
+  refused-at n (inl (e, h)) = simp (e, h)
+  refused-at n (inr (e, h)) = at-eight (pastPositive a) (pastNegative a) (never-both a) h ∙ sym e
+
+  pub passed-at : Short a → refusal (pastPositive a) (pastNegative a) ≡ 0
+  passed-at (h, k) = simp (h, k)
