@@ -2,7 +2,7 @@
 -- the right and back. Straight to the left is 3fc90fda, one place under the f32 of 90 degrees.
 use mathlib.Core.Path.{_≡_, refl}
 use Prim.Native.Nat.{ℕ}
-use lib.Ieee.{Float, binary32, ofBits, units, round}
+use lib.Ieee.{binary32, ofBits, units, round}
 use Rattle.numbers.specs.Door.{finite}
 use Rattle.units.specs.Units.{mag, hi, lo}
 use Rattle.arc_rows.specs.ArcTangent.{arcTangent}

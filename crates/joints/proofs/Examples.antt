@@ -1,10 +1,8 @@
 -- Request K2's cases, by computation: a coxa of 1/16 m, a femur and a tibia of 1/8 m, all else in the configuration 0. A foot ahead is
 -- solved; one to the left and back is past 90 degrees, one to the right and back past -90. A leg turned by just the limit is past it.
 use mathlib.Core.Path.{_≡_, refl}
-use mathlib.Core.Bool.{true, false}
-use mathlib.Core.List.{[], _∷_}
 use Prim.Native.Nat.{ℕ}
-use lib.Ieee.{Float, nan, binary32, ofBits, round, units, add, sub, mul, div, neg, lt, le, eq}
+use lib.Ieee.{Float, nan, binary32, ofBits, round, add, sub, lt, le, eq}
 use Rattle.numbers.specs.Told.{Told, refused}
 use Rattle.numbers.specs.Door.{finite}
 use Rattle.numbers.specs.Limits.{over, minus, footLimit, legLength, offset, correction, rotation}
@@ -18,7 +16,6 @@ use Rattle.joints.specs.Configured.{finiteConfiguration, permittedConfig
 use Rattle.joints.specs.Degrees.{ninety, minusNinety}
 use Rattle.joints.specs.Answers.{givenJoints, legRefused}
 use Rattle.joints.specs.Inverse.{coxaAngle, legAngles, ikRefusal, sideRefusal, ikTold}
-use Rattle.joints.specs.declared.configuration.Body.{Body}
 use Rattle.joints.specs.declared.configuration.LegConfiguration.{LegConfiguration}
 use Rattle.joints.specs.declared.configuration.Configuration.{Configuration}
 
@@ -130,7 +127,7 @@ unfolding ikTold ikRefusal sideRefusal finiteConfiguration permittedConfiguratio
 table = (
   rw (angle-ahead) refl,
   rw (angle-ahead) (rw (angle-left) refl),
-  rw (angle-right) refl,
+  rw (angle-ahead) (rw (angle-left) (rw (angle-right) refl)),
   rw (angle-ahead) (rw (angle-right) refl),
   refl,
   refl,

@@ -12,7 +12,7 @@ use lib.Ieee.{nan, lt, ofBits, neg}
 use borrow.Author.Tests.{eq-eqb, eqb-true}
 use Rattle.numbers.specs.Told.{Told, refused, choose}
 use Rattle.legs.specs.Legs.{Leg, leftFront, rightFront, leftMiddle, rightMiddle, leftRear, rightRear}
-use Rattle.legs.specs.Legs.{row, foot, angles, joints, jointsOf, values}
+use Rattle.legs.specs.Legs.{row, foot, angles, joints}
 use Rattle.legs.specs.declared.Feet.{Feet}
 use Rattle.legs.specs.declared.LegAngles.{LegAngles}
 use Rattle.legs.specs.declared.Joints.{Joints}

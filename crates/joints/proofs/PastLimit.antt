@@ -4,7 +4,6 @@ use mathlib.Core.Bool.{Bool, true, false}
 use mathlib.Core.List.{List, [], _∷_, map}
 use Prim.Native.Nat.{ℕ, suc}
 use lib.Dec.{eqb}
-use lib.Ieee.{Float}
 use Rattle.numbers.specs.Told.{Told, choose}
 use Rattle.numbers.specs.Door.{when, firstOf}
 use Rattle.legs.specs.Legs.{Leg, leftFront, rightFront, leftMiddle, rightMiddle, leftRear, rightRear, row, foot, joints}
@@ -36,10 +35,6 @@ answered-sideless (Past l s) = refl
 abbrev numbered : ℕ → ℕ
 numbered side = choose (eqb side 0) 0 (sideNumber side)
 
-abbrev all-numbered : List ℕ → List ℕ
-all-numbered [] = []
-all-numbered (n ∷ ns) = numbered n ∷ all-numbered ns
-
 module _ (j : Joints) where
   abbrev chosen : PastLeg → Told
   chosen p = choose (eqb (p .side) 0) (givenJoints j) (toldPast (p .leg) (p .side))
@@ -52,7 +47,7 @@ module _ (j : Joints) where
   one-leg n k later rest false true e d h = simp (e, d)
   one-leg n k later rest false false e d h = simp (e, d)
 
-  in-order : (ns : List ℕ) (k : ℕ) → sideless (chosen (firstPast ns k)) ≡ firstLeg (all-numbered ns) k (givenJoints j)
+  in-order : (ns : List ℕ) (k : ℕ) → sideless (chosen (firstPast ns k)) ≡ firstLeg (map numbered ns) k (givenJoints j)
   unfolding firstPast
   in-order [] k = refl
   in-order (n ∷ ns) k = one-leg n k (firstPast ns (suc k)) _ (eqb n 0) (eqb n 1) refl refl (in-order ns (suc k))
@@ -77,7 +72,7 @@ module _ (f : Feet) (c : Configuration) where
   unfolding sideOf sideRefusal
   refusal-of-side l = by-tests (pastPositive (coxaOf f c l)) (pastNegative (coxaOf f c l))
 
-  six : all-numbered sides ≡ row (sideRefusal f c)
+  six : map numbered sides ≡ row (sideRefusal f c)
   six =
       simp (
         refusal-of-side leftFront,

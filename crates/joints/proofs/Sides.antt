@@ -8,7 +8,7 @@ use native.Mathlib.Nat.{mul-pos}
 use native.Mathlib.Omega.{arith}
 use lib.Dec.{eqb, lit<}
 use lib.Ieee.{Float, nan, inf, fin, ofBits, lt, eq, le, up, down}
-use lib.Ieee.Fits.{up-pos, down-pos}
+use lib.Ieee.Fits.{down-pos}
 use borrow.Author.Tests.{eqb-true}
 use Rattle.numbers.specs.Door.{when, firstOf}
 use Rattle.joints.specs.Degrees.{ninety, minusNinety}
@@ -34,13 +34,13 @@ left-some x y p = never-level x y (eqb x y) (eqb x 0) refl refl (λ e z. omega (
 right-some : (x y : ℕ) → 0 < y → (eqb x y && (false || eqb x 0)) ≡ false
 right-some x y p = never-level x y (eqb x y) (eqb x 0) refl refl (λ e z. omega (arith, p, e, z))
 
-pub never-both : (a : Float) → pastPositive a ≡ true → pastNegative a ≡ false
+pub never-both-sides : (a : Float) → pastPositive a ≡ true → pastNegative a ≡ false
 unfolding ninety minusNinety ofBits le lt eq
-never-both nan h = refl
-never-both (inf false) h = refl
-never-both (inf true) h = absurd (true≢false (sym h))
-never-both (fin false m e) h = right-some (m * up e * _) (_ * down e) (mul-pos (lit< tt) (down-pos e))
-never-both (fin true m e) h = absurd (true≢false (sym h ∙ left-some (_ * down e) (m * up e * _) (mul-pos (lit< tt) (down-pos e))))
+never-both-sides nan h = refl
+never-both-sides (inf false) h = refl
+never-both-sides (inf true) h = absurd (true≢false (sym h))
+never-both-sides (fin false m e) h = right-some (m * up e * _) (_ * down e) (mul-pos (lit< tt) (down-pos e))
+never-both-sides (fin true m e) h = absurd (true≢false (sym h ∙ left-some (_ * down e) (m * up e * _) (mul-pos (lit< tt) (down-pos e))))
 
 -- ---- a leg's refusal and its angle
 module _ (a : Float) where
@@ -75,7 +75,7 @@ module _ (a : Float) where
 
   pub refused-at : (n : ℕ) → PastSide n a → refusal (pastPositive a) (pastNegative a) ≡ n
   refused-at n (inl (e, h)) = simp (e, h)
-  refused-at n (inr (e, h)) = at-eight (pastPositive a) (pastNegative a) (never-both a) h ∙ sym e
+  refused-at n (inr (e, h)) = at-eight (pastPositive a) (pastNegative a) (never-both-sides a) h ∙ sym e
 
   pub passed-at : Short a → refusal (pastPositive a) (pastNegative a) ≡ 0
   passed-at (h, k) = simp (h, k)

@@ -38,9 +38,10 @@ told (Solved j) = givenJoints j
 told (Refused n) = refused n
 told (LegRefused n k) = legRefused n k
 
--- ---- the core's: a leg that is past its limit, and its side, 1 at 90 degrees or more, 2 at -90 degrees or less. It has two marks, the leg
--- and the side, so that nothing of it is lost
--- 6 at 90 degrees or more, 8 at -90 degrees or less
+-- ---- what the core tells: a leg that is past its limit, and its side, 1 at 90 degrees or more, 2 at -90 degrees or less. A side is any
+-- number, so it is a mark of its own, and nothing is lost
+
+-- a side's refusal: 6 at 90 degrees or more, 8 at -90 degrees or less
 abbrev pub sideNumber : ℕ → ℕ
 sideNumber side = choose (eqb side 1) 6 8
 
