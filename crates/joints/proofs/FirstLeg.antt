@@ -11,7 +11,7 @@ use lib.ListN.{length, getD}
 use borrow.Author.Tests.{eqb-true, eqb-false}
 use Rattle.numbers.specs.Told.{Told}
 use Rattle.legs.specs.Legs.{Leg, leftFront, rightFront, leftMiddle, rightMiddle, leftRear, rightRear, row}
-use Rattle.joints.specs.Answers.{legNumber, legRefused, firstLeg}
+use Rattle.joints.specs.Answers.{legRefused, firstLeg}
 
 -- ---- of a list: the i-th is the first that is not 0
 record At (ns : List ℕ) (i : ℕ) : Type 0 where
@@ -56,6 +56,15 @@ module _ (t : Told) where
   in-list (n ∷ ns) k = one-more n ns k (eqb n 0) refl (in-list ns (suc k))
 
 -- ---- of six legs
+-- a leg's number, its place in a row
+abbrev pub legNumber : Leg → ℕ
+legNumber leftFront = 0
+legNumber rightFront = 1
+legNumber leftMiddle = 2
+legNumber rightMiddle = 3
+legNumber leftRear = 4
+legNumber rightRear = 5
+
 pub record First (g : Leg → ℕ) (l : Leg) : Type 0 where
   pub refused : g l ≡ 0 → ⊥
   pub before : (m : Leg) → legNumber m < legNumber l → g m ≡ 0

@@ -16,13 +16,13 @@ use Rattle.legs.specs.Legs.{row, foot, angles, joints}
 use Rattle.legs.specs.declared.Feet.{Feet}
 use Rattle.legs.specs.declared.LegAngles.{LegAngles}
 use Rattle.legs.specs.declared.Joints.{Joints}
-use Rattle.joints.specs.Answers.{givenJoints, legNumber, legRefused, firstLeg, told}
+use Rattle.joints.specs.Answers.{givenJoints, legRefused, firstLeg, told}
 use Rattle.joints.specs.Configured.{leg}
 use Rattle.joints.specs.Inverse.{one, cut, coxaOf, legAngles, ikRefusal, sideRefusal, ikTold}
 use Rattle.joints.specs.declared.Solution.the-variants.{Solved, LegRefused}
 use Rattle.joints.specs.declared.configuration.Configuration.{Configuration}
 use Rattle.joints.proofs.OneAnswer.{floats, marked, joints-from-values}
-use Rattle.joints.proofs.FirstLeg.{First, AllPass, OneNamed, first-leg, the-first}
+use Rattle.joints.proofs.FirstLeg.{legNumber, First, AllPass, OneNamed, first-leg, the-first}
 use Rattle.joints.proofs.Sides.{PastSide, Short, past-side, short, a-number, refused-at, passed-at}
 
 angles-of-joints : (g : Leg → LegAngles) (l : Leg) → angles (joints g) l ≡ g l

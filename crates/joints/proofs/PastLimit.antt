@@ -1,9 +1,10 @@
 -- What the core tells of six legs, and what the entry makes of it: refusal 6 or 8 with the first leg in row order that is past its limit.
-use mathlib.Core.Path.{_≡_, refl, ap, _∙_}
-use mathlib.Core.Bool.{Bool, true, false}
+use mathlib.Core.Path.{_≡_, refl, sym, ap, _∙_}
+use mathlib.Core.Bool.{Bool, true, false, _||_, true≢false}
 use mathlib.Core.List.{List, [], _∷_, map}
 use Prim.Native.Nat.{ℕ, suc}
 use lib.Dec.{eqb}
+use lib.Ieee.{Float}
 use Rattle.numbers.specs.Told.{Told, choose}
 use Rattle.numbers.specs.Door.{when, firstOf}
 use Rattle.legs.specs.Legs.{Leg, leftFront, rightFront, leftMiddle, rightMiddle, leftRear, rightRear, row, foot, joints}
@@ -12,11 +13,35 @@ use Rattle.legs.specs.declared.Joints.{Joints}
 use Rattle.joints.specs.Configured.{leg}
 use Rattle.joints.specs.Answers.{told, sideNumber, toldPast, toldLegs, givenJoints, legRefused, firstLeg}
 use Rattle.joints.specs.Inverse.{pastPositive, pastNegative, coxaOf, legAngles, sideRefusal}
-use Rattle.joints.specs.How.{heading, solvedAngles, sideOf, earlier, firstPast, answered, legsTold}
+use Rattle.joints.specs.How.{heading, solvedAngles, sideOf, pastAt, earlier, firstPast, answered, legsTold}
 use Rattle.joints.specs.declared.configuration.Configuration.{Configuration}
 use Rattle.joints.specs.declared.core.PastLeg.{PastLeg}
 use Rattle.joints.specs.declared.core.LegsSolved.{LegsSolved}
 use Rattle.joints.specs.declared.core.LegsSolved.the-variants.{Joints as AllAngles, Past}
+
+-- ---- one leg: where it is past its limit it is the first, with its side; else later legs say
+abbrev side : Bool → Bool → ℕ
+side u w = firstOf (when u 1 ∷ when w 2 ∷ [])
+
+past-by : (k : ℕ) (later : PastLeg) (u w : Bool) → (u || w) ≡ true → record { leg = k; side = choose u 1 2 } ≡ earlier (side u w) k later
+unfolding earlier
+past-by k later true w h = refl
+past-by k later false true h = refl
+past-by k later false false h = absurd (true≢false (sym h))
+
+short-by : (k : ℕ) (later : PastLeg) (u w : Bool) → (u || w) ≡ false → later ≡ earlier (side u w) k later
+unfolding earlier
+short-by k later true w h = absurd (true≢false h)
+short-by k later false true h = absurd (true≢false h)
+short-by k later false false h = refl
+
+pub past-leg : (k : ℕ) (later : PastLeg) (a : Float) → (pastPositive a || pastNegative a) ≡ true → pastAt k a ≡ earlier (sideOf a) k later
+unfolding sideOf
+past-leg k later a = past-by k later (pastPositive a) (pastNegative a)
+
+pub short-leg : (k : ℕ) (later : PastLeg) (a : Float) → (pastPositive a || pastNegative a) ≡ false → later ≡ earlier (sideOf a) k later
+unfolding sideOf
+short-leg k later a = short-by k later (pastPositive a) (pastNegative a)
 
 -- ---- an answer that names the leg alone
 abbrev first-mark : List ℕ → List ℕ
@@ -53,7 +78,7 @@ module _ (j : Joints) where
   in-order (n ∷ ns) k = one-leg n k (firstPast ns (suc k)) _ (eqb n 0) (eqb n 1) refl refl (in-order ns (suc k))
 
 -- a side's number is the refusal
-by-tests : (u w : Bool) → numbered (firstOf (when u 1 ∷ when w 2 ∷ [])) ≡ firstOf (when u 6 ∷ when w 8 ∷ [])
+by-tests : (u w : Bool) → numbered (side u w) ≡ firstOf (when u 6 ∷ when w 8 ∷ [])
 by-tests true w = refl
 by-tests false true = refl
 by-tests false false = refl

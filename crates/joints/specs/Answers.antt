@@ -4,7 +4,7 @@ use Prim.Native.Nat.{ℕ, suc}
 use mathlib.Core.List.{List, [], _∷_}
 use lib.Dec.{eqb}
 use Rattle.numbers.specs.Told.{Told, refused, given, choose}
-use Rattle.legs.specs.Legs.{Leg, leftFront, rightFront, leftMiddle, rightMiddle, leftRear, rightRear, row, angles, jointsOf, values}
+use Rattle.legs.specs.Legs.{row, angles, jointsOf, values}
 use Rattle.legs.specs.declared.Joints.{Joints}
 use Rattle.joints.specs.declared.Solution.{Solution}
 use Rattle.joints.specs.declared.Solution.the-variants.{Solved, Refused, LegRefused}
@@ -14,15 +14,6 @@ use Rattle.joints.specs.declared.core.LegsSolved.the-variants.{Joints as
 -- eighteen angles, in row order
 abbrev pub givenJoints : Joints → Told
 givenJoints j = given [] (values jointsOf (row (angles j)))
-
--- a leg's number, its place in a row
-abbrev pub legNumber : Leg → ℕ
-legNumber leftFront = 0
-legNumber rightFront = 1
-legNumber leftMiddle = 2
-legNumber rightMiddle = 3
-legNumber leftRear = 4
-legNumber rightRear = 5
 
 -- a refusal that names a leg
 abbrev pub legRefused : ℕ → ℕ → Told

@@ -46,6 +46,10 @@ solvedAngles h b l = motorAngles (h .«target_angle») (h .distances .horizontal
 unfoldable pub sideOf : Float → ℕ
 sideOf a = firstOf (when (pastPositive a) 1 ∷ when (pastNegative a) 2 ∷ [])
 
+-- a leg that is past its limit, with the side that its coxa's angle says
+abbrev pub pastAt : ℕ → Float → PastLeg
+pastAt k a = record { leg = k; side = choose (pastPositive a) 1 2 }
+
 -- this leg where it is past its limit, else what later legs say
 unfoldable pub earlier : ℕ → ℕ → PastLeg → PastLeg
 earlier side k later = choose (eqb side 0) later (record { leg = k; side = side })

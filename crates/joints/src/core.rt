@@ -6,10 +6,11 @@ use legs::Feet;
 use legs::Joints;
 use legs::LegAngles;
 use legs::Point;
+ghost use mathlib.Core.Bool.{_||_};
 ghost use mathlib.Core.Path.{_≡_};
 ghost use Rattle.joints.specs.Answers.{toldLegs};
-ghost use Rattle.joints.specs.Inverse.{relativeVector, getAlphaAngle, corrected};
-ghost use Rattle.joints.specs.How.{distances, heading, solvedAngles, sideOf, earlier, pastBy, legsTold};
+ghost use Rattle.joints.specs.Inverse.{relativeVector, getAlphaAngle, corrected, pastPositive, pastNegative};
+ghost use Rattle.joints.specs.How.{distances, heading, solvedAngles, pastAt, pastBy, legsTold};
 ghost use Rattle.joints.specs.Forward.{fromMotor, standing, standingFeet};
 
 // Rust's `to_radians` of 90 and 150 degrees: 3fc90fdb and 40278d36.
@@ -116,30 +117,21 @@ pub fn calculate_ik_for_leg(heading: Heading, body: Body, leg: LegConfiguration)
     }
 }
 
-// On which side a coxa at this angle is past its limit: 1 at 90 degrees or more, 2 at -90 degrees or less, 0 on neither.
-fn side_of(angle: f32) -> u32
-    ensures { λ r. ⌜ r ≡ sideOf angle ⌝ }
+// Whether a coxa at this angle is past its limit, on either side.
+fn is_past(angle: f32) -> bool
+    ensures { λ r. ⌜ r ≡ (pastPositive angle || pastNegative angle) ⌝ }
 {
-    if angle >= NINETY {
-        1
-    } else if angle <= -NINETY {
-        2
-    } else {
-        0
-    }
+    (angle >= NINETY) | (angle <= -NINETY)
 }
 
-// This leg where it is past its limit, else what later legs say.
-fn earlier(side: u32, leg: u32, later: PastLeg) -> PastLeg
-    ensures { λ r. ⌜ r ≡ earlier side leg later ⌝ }
+// A leg that is past its limit, with the side that its coxa's angle says.
+fn past_at(leg: u32, angle: f32) -> PastLeg
+    ensures { λ r. ⌜ r ≡ pastAt leg angle ⌝ }
 {
-    if side == 0 {
-        later
+    if angle >= NINETY {
+        PastLeg { leg: leg, side: 1 }
     } else {
-        PastLeg {
-            leg: leg,
-            side: side,
-        }
+        PastLeg { leg: leg, side: 2 }
     }
 }
 
@@ -154,13 +146,21 @@ fn first_past(
 ) -> PastLeg
     ensures { λ r. ⌜ r ≡ pastBy «left_front» «right_front» «left_middle» «right_middle» «left_rear» «right_rear» ⌝ }
 {
-    let past = PastLeg { leg: 0, side: 0 };
-    let past = earlier(side_of(right_rear), 5, past);
-    let past = earlier(side_of(left_rear), 4, past);
-    let past = earlier(side_of(right_middle), 3, past);
-    let past = earlier(side_of(left_middle), 2, past);
-    let past = earlier(side_of(right_front), 1, past);
-    earlier(side_of(left_front), 0, past)
+    if is_past(left_front) {
+        past_at(0, left_front)
+    } else if is_past(right_front) {
+        past_at(1, right_front)
+    } else if is_past(left_middle) {
+        past_at(2, left_middle)
+    } else if is_past(right_middle) {
+        past_at(3, right_middle)
+    } else if is_past(left_rear) {
+        past_at(4, left_rear)
+    } else if is_past(right_rear) {
+        past_at(5, right_rear)
+    } else {
+        PastLeg { leg: 0, side: 0 }
+    }
 }
 
 // Six legs, in the source's order; the first that is past its limit answers for all. All set out before

@@ -6,7 +6,8 @@ use lib.Dec.{eqb}
 use lib.Ieee.{Float}
 
 -- `number`: the refusal's number, 0 where nothing is refused.
--- `marks`: what the case says besides floats: moved (1) or not (0), a step (1) or none (0), a count, a length; empty where it says nothing.
+-- `marks`: what the case says besides floats: moved (1) or not (0), a step (1) or none (0), a count, a length, a refused leg; empty where
+-- it says nothing.
 -- `values`: the floats, in row order; a refusal has none.
 pub record Told : Type 0 where
   pub number : ℕ
