@@ -98,15 +98,16 @@ ikRefusal f c =
     ∷ unless (permittedFeet footLimit f && permittedConfiguration c) 2
     ∷ [])
 
--- Request K2: "refusal 6 shall mean 90 degrees or more, and a new number the other side": "8 for -90 degrees or less", of a leg's computed
--- coxa angle
+-- a leg's coxa angle, by its leg
 abbrev pub coxaOf : Feet → Configuration → Leg → Float
 coxaOf f c l = coxaAngle (foot f l) (leg c l)
 
+-- Request K2: "Refusal 6 shall mean 90 degrees or more, and a new number the other side"; "8 for -90 degrees or less". Of one leg; 0 where
+-- it is short of both
 unfoldable pub sideRefusal : Feet → Configuration → Leg → ℕ
 sideRefusal f c l = firstOf (when (pastPositive (coxaOf f c l)) 6 ∷ when (pastNegative (coxaOf f c l)) 8 ∷ [])
 
--- the door first; then "the first failing leg in the source's order still answers", "leg order first"; else eighteen angles
+-- the door first; then "the first failing leg in the source's order still answers", so "leg order first"; else eighteen angles
 unfoldable pub ikTold : Feet → Configuration → Told
 ikTold f c =
     answer (ikRefusal f c)
