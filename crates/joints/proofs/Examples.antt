@@ -15,7 +15,7 @@ use Rattle.joints.specs.Configured.{leg, finiteLeg, permittedLeg, finite
 use Rattle.joints.specs.Configured.{finiteConfiguration, permittedConfiguration}
 use Rattle.joints.specs.Degrees.{ninety, minusNinety}
 use Rattle.joints.specs.Answers.{givenJoints, legRefused}
-use Rattle.joints.specs.Inverse.{coxaAngle, legAngles, ikRefusal, sideRefusal, ikTold}
+use Rattle.joints.specs.Inverse.{coxaAngle, legAngles, ikRefusal, pastRefusal, legsTold, ikTold}
 use Rattle.joints.specs.declared.configuration.LegConfiguration.{LegConfiguration}
 use Rattle.joints.specs.declared.configuration.Configuration.{Configuration}
 
@@ -122,7 +122,7 @@ pub table :
     × (ikTold (six ahead ahead right-and-back right-and-back right-and-back right-and-back) crawler ≡ legRefused 8 2)
     × (ikTold (six right-and-back ahead ahead ahead ahead (at nan (bits 0) (bits 0))) crawler ≡ refused 1)
     × (ikTold (six right-and-back ahead ahead ahead ahead (at (bits 0x3e80_0000) (bits 0) (bits 0x4080_0001))) crawler ≡ refused 2)
-unfolding ikTold ikRefusal sideRefusal finiteConfiguration permittedConfiguration finiteLeg permittedLeg finiteBody permittedBody
+unfolding ikTold ikRefusal legsTold pastRefusal finiteConfiguration permittedConfiguration finiteLeg permittedLeg finiteBody permittedBody
     finitePoint permittedPoint finite footLimit legLength offset correction rotation over minus round ninety minusNinety ofBits lt le eq
 table = (
   rw (angle-ahead) refl,
@@ -141,7 +141,7 @@ pub at-the-limit :
     × (ikTold all-ahead (left-rear-turned (bits 0x3fc9_0fda)) ≡ solved all-ahead (left-rear-turned (bits 0x3fc9_0fda)))
     × (ikTold all-ahead (left-rear-turned (bits 0xbfc9_0fda)) ≡ solved all-ahead (left-rear-turned (bits 0xbfc9_0fda)))
     × (ikTold (six to-the-side ahead ahead ahead ahead ahead) crawler ≡ solved (six to-the-side ahead ahead ahead ahead ahead) crawler)
-unfolding ikTold ikRefusal sideRefusal finiteConfiguration permittedConfiguration finiteLeg permittedLeg finiteBody permittedBody
+unfolding ikTold ikRefusal legsTold pastRefusal finiteConfiguration permittedConfiguration finiteLeg permittedLeg finiteBody permittedBody
     finitePoint permittedPoint finite footLimit legLength offset correction rotation over minus round ninety minusNinety ofBits lt le eq
 at-the-limit = (
   rw (angle-ahead) (rw (angle-turned .0) refl),

@@ -18,10 +18,10 @@ use Rattle.legs.specs.declared.LegAngles.{LegAngles}
 use Rattle.legs.specs.declared.Joints.{Joints}
 use Rattle.joints.specs.Answers.{givenJoints, legRefused, firstLeg, told}
 use Rattle.joints.specs.Configured.{leg}
-use Rattle.joints.specs.Inverse.{one, cut, coxaOf, legAngles, ikRefusal, sideRefusal, ikTold}
+use Rattle.joints.specs.Inverse.{one, cut, coxaOf, legAngles, ikRefusal, sideRefusal, legsTold, ikTold}
 use Rattle.joints.specs.declared.Solution.the-variants.{Solved, LegRefused}
 use Rattle.joints.specs.declared.configuration.Configuration.{Configuration}
-use Rattle.joints.proofs.OneAnswer.{floats, marked, joints-from-values}
+use Rattle.joints.proofs.OneAnswer.{floats, marked, one-refusal, joints-from-values}
 use Rattle.joints.proofs.FirstLeg.{legNumber, First, AllPass, OneNamed, first-leg, the-first}
 use Rattle.joints.proofs.Sides.{PastSide, Short, past-side, short, a-number, refused-at, passed-at}
 
@@ -64,7 +64,7 @@ module _ (f : Feet) (c : Configuration) where
   with-a-mark n k t none h = not-none 0 (ap length (marked h ∙ none))
 
   solved : (j : Joints) → told (Solved j) ≡ ikTold f c → ((l : Leg) → sideRefusal f c l ≡ 0) × (j ≡ joints own)
-  unfolding ikTold
+  unfolding ikTold legsTold
   solved j e =
       let n = ikRefusal f c in
       by-first (first-leg (sideRefusal f c) solution)
@@ -81,7 +81,6 @@ module _ (f : Feet) (c : Configuration) where
   solved-leg j e l = ap (λ (i : Joints). angles i l) (solved j e .1) ∙ angles-of-joints own l
 
   pub no-leg-past : (j : Joints) → told (Solved j) ≡ ikTold f c → (l : Leg) → Short (coxaOf f c l)
-  unfolding sideRefusal
   no-leg-past j e l = short (coxaOf f c l) (solved j e .0 l)
 
   -- ---- where a leg is named: the door let all in, this leg is past its limit on the number's side, and no leg before it in row order is
@@ -94,7 +93,7 @@ module _ (f : Feet) (c : Configuration) where
     pub before : (m : Leg) → legNumber m < k → Short (coxaOf f c m)
 
   answers : (n k : ℕ) → told (LegRefused n k) ≡ ikTold f c → FirstPast n k
-  unfolding ikTold sideRefusal
+  unfolding ikTold legsTold
   answers n k e =
       let r = ikRefusal f c in
       let (open-door, h) = past-the-door (legRefused n k) r (eqb r 0) refl (with-a-mark n k (refused r) refl) e in
@@ -106,19 +105,17 @@ module _ (f : Feet) (c : Configuration) where
           → FirstPast n k
       by-first (inl (p, q)) d h = absurd (with-a-mark n k solution refl (h ∙ q))
       by-first (inr (l, F, q)) d h =
-          let same-number : n ≡ sideRefusal f c l = ap (λ (t : Told). t .number) (h ∙ q) in
-          let same-mark : k ∷ [] ≡ legNumber l ∷ [] = marked (h ∙ q) in
-          let same-leg : legNumber l ≡ k = cc in
+          let (same-number, same-leg) = one-refusal n k (sideRefusal f c l) (legNumber l) (h ∙ q) in
           record {
             let-in = d;
             which = l;
-            number = same-leg;
+            number = sym same-leg;
             past = subst (λ (i : ℕ). PastSide i (coxaOf f c l)) (sym same-number) (past-side (coxaOf f c l) (F .refused));
             before = λ m b. short (coxaOf f c m) (F .before m (omega (arith, b, same-leg)));
           }
 
   answered-so : (n k : ℕ) → FirstPast n k → told (LegRefused n k) ≡ ikTold f c
-  unfolding ikTold sideRefusal
+  unfolding ikTold legsTold
   answered-so n k P =
       let number : sideRefusal f c (P .which) ≡ n = refused-at (coxaOf f c (P .which)) n (P .past) in
       rw (eq-eqb (ikRefusal f c) 0 (P .let-in))
@@ -137,9 +134,7 @@ module _ (f : Feet) (c : Configuration) where
   -- no second pair of number and leg fits
   pub no-second-pair : (n k m l : ℕ) → FirstPast n k → FirstPast m l → (n ≡ m) × (k ≡ l)
   no-second-pair n k m l P Q =
-      let same : legRefused n k ≡ legRefused m l = answered-so n k P ∙ sym (answered-so m l Q) in
-      let same-mark : k ∷ [] ≡ l ∷ [] = marked same in
-      (ap (λ (t : Told). t .number) same, cc)
+      one-refusal n k m l (answered-so n k P ∙ sym (answered-so m l Q))
 
 -- a NaN quotient becomes 1
 pub cut-nan : cut nan ≡ one

@@ -3,10 +3,11 @@ use mathlib.Core.Path.{_≡_, ap, ap₂}
 use mathlib.Core.List.{List, [], _∷_}
 use lib.ListN.{getD}
 use lib.Ieee.{Float, nan}
+use Prim.Native.Nat.{ℕ}
 use Rattle.numbers.specs.Told.{Told}
 use Rattle.legs.specs.Legs.{row, angles, jointsOf, values}
 use Rattle.legs.specs.declared.Joints.{Joints}
-use Rattle.joints.specs.Answers.{told, toldLegs}
+use Rattle.joints.specs.Answers.{legRefused, told, toldLegs}
 use Rattle.joints.specs.declared.Solution.{Solution}
 use Rattle.joints.specs.declared.Solution.the-variants.{Solved, Refused, LegRefused}
 use Rattle.joints.specs.declared.core.LegsSolved.{LegsSolved}
@@ -34,6 +35,11 @@ floats e = ap (λ (t : Told). t .values) e
 pub marked : {t u : Told} → t ≡ u → t .marks ≡ u .marks
 marked e = ap (λ (t : Told). t .marks) e
 
+pub one-refusal : (n k m l : ℕ) → legRefused n k ≡ legRefused m l → (n ≡ m) × (k ≡ l)
+one-refusal n k m l e =
+    let v : k ∷ [] ≡ l ∷ [] = marked e in
+    (ap (λ (t : Told). t .number) e, cc)
+
 -- a leg's mark tells the refusals that name one from those that name none
 pub told-loses-nothing : (a b : Solution) → told a ≡ told b → a ≡ b
 told-loses-nothing (Solved i) (Solved j) e = ap Solved (joints-from-values i j (floats e))
@@ -44,15 +50,11 @@ told-loses-nothing (Refused n) (Refused m) e = ap Refused (ap (λ (t : Told). t 
 told-loses-nothing (Refused n) (LegRefused m k) e = let v : [] ≡ k ∷ [] = marked e in cc
 told-loses-nothing (LegRefused n k) (Solved j) e = let v : [] ≡ values jointsOf (row (angles j)) = floats e in cc
 told-loses-nothing (LegRefused n k) (Refused m) e = let v : k ∷ [] ≡ [] = marked e in cc
-told-loses-nothing (LegRefused n k) (LegRefused m l) e =
-    let v : k ∷ [] ≡ l ∷ [] = marked e in
-    ap₂ LegRefused (ap (λ (t : Told). t .number) e) (cc)
+told-loses-nothing (LegRefused n k) (LegRefused m l) e = let (p, q) = one-refusal n k m l e in ap₂ LegRefused p q
 
 pub toldLegs-loses-nothing : (a b : LegsSolved) → toldLegs a ≡ toldLegs b → a ≡ b
 unfolding toldLegs
 toldLegs-loses-nothing (AllAngles i) (AllAngles j) e = ap AllAngles (joints-from-values i j (floats e))
-toldLegs-loses-nothing (AllAngles i) (Past l s) e = let v : values jointsOf (row (angles i)) ≡ [] = floats e in cc
-toldLegs-loses-nothing (Past l s) (AllAngles j) e = let v : [] ≡ values jointsOf (row (angles j)) = floats e in cc
-toldLegs-loses-nothing (Past l s) (Past k t) e =
-    let m : l ∷ s ∷ [] ≡ k ∷ t ∷ [] = marked e in
-    ap₂ Past (cc) (cc)
+toldLegs-loses-nothing (AllAngles i) (Past n k) e = let v : values jointsOf (row (angles i)) ≡ [] = floats e in cc
+toldLegs-loses-nothing (Past n k) (AllAngles j) e = let v : [] ≡ values jointsOf (row (angles j)) = floats e in cc
+toldLegs-loses-nothing (Past n k) (Past m l) e = let (p, q) = one-refusal n k m l e in ap₂ Past p q

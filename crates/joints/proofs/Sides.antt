@@ -12,7 +12,7 @@ use lib.Ieee.Fits.{down-pos}
 use borrow.Author.Tests.{eqb-true}
 use Rattle.numbers.specs.Door.{when, firstOf}
 use Rattle.joints.specs.Degrees.{ninety, minusNinety}
-use Rattle.joints.specs.Inverse.{pastPositive, pastNegative}
+use Rattle.joints.specs.Inverse.{pastPositive, pastNegative, pastRefusal}
 
 -- past the limit on the side that the number says: 6 at 90 degrees or more, 8 at -90 degrees or less
 abbrev pub PastSide : ℕ → Float → Type 0
@@ -43,10 +43,11 @@ never-both-sides (fin false m e) h = right-some (m * up e * _) (_ * down e) (mul
 never-both-sides (fin true m e) h = absurd (true≢false (sym h ∙ left-some (_ * down e) (m * up e * _) (mul-pos (lit< tt) (down-pos e))))
 
 -- ---- a leg's refusal and its angle
-module _ (a : Float) where
-  abbrev refusal : Bool → Bool → ℕ
-  refusal u w = firstOf (when u 6 ∷ when w 8 ∷ [])
+-- by the two tests
+abbrev pub refusal : Bool → Bool → ℕ
+refusal u w = firstOf (when u 6 ∷ when w 8 ∷ [])
 
+module _ (a : Float) where
   by-tests : (u w : Bool) → pastPositive a ≡ u → pastNegative a ≡ w → (refusal u w ≡ 0 → ⊥) → PastSide (refusal u w) a
   by-tests true w e d h = inl (refl, e)
   by-tests false true e d h = inr (refl, d)
@@ -57,10 +58,12 @@ module _ (a : Float) where
   neither false true h = absurd (omega (arith, h))
   neither false false h = (refl, refl)
 
-  pub past-side : (refusal (pastPositive a) (pastNegative a) ≡ 0 → ⊥) → PastSide (refusal (pastPositive a) (pastNegative a)) a
+  pub past-side : (pastRefusal a ≡ 0 → ⊥) → PastSide (pastRefusal a) a
+  unfolding pastRefusal
   past-side = by-tests (pastPositive a) (pastNegative a) refl refl
 
-  pub short : refusal (pastPositive a) (pastNegative a) ≡ 0 → Short a
+  pub short : pastRefusal a ≡ 0 → Short a
+  unfolding pastRefusal
   short = neither (pastPositive a) (pastNegative a)
 
   pub a-number : (n : ℕ) → PastSide n a → n ≡ 0 → ⊥
@@ -73,9 +76,11 @@ module _ (a : Float) where
   at-eight false true not-both h = refl
   at-eight false false not-both h = absurd (true≢false (sym h))
 
-  pub refused-at : (n : ℕ) → PastSide n a → refusal (pastPositive a) (pastNegative a) ≡ n
+  pub refused-at : (n : ℕ) → PastSide n a → pastRefusal a ≡ n
+  unfolding pastRefusal
   refused-at n (inl (e, h)) = simp (e, h)
   refused-at n (inr (e, h)) = at-eight (pastPositive a) (pastNegative a) (never-both-sides a) h ∙ sym e
 
-  pub passed-at : Short a → refusal (pastPositive a) (pastNegative a) ≡ 0
+  pub passed-at : Short a → pastRefusal a ≡ 0
+  unfolding pastRefusal
   passed-at (h, k) = simp (h, k)

@@ -29,16 +29,7 @@ told (Solved j) = givenJoints j
 told (Refused n) = refused n
 told (LegRefused n k) = legRefused n k
 
--- ---- what the core tells: a leg that is past its limit, and its side, 1 at 90 degrees or more, 2 at -90 degrees or less. A side is any
--- number, so it is a mark of its own, and nothing is lost
-
--- a side's refusal: 6 at 90 degrees or more, 8 at -90 degrees or less
-abbrev pub sideNumber : ℕ → ℕ
-sideNumber side = choose (eqb side 1) 6 8
-
-abbrev pub toldPast : ℕ → ℕ → Told
-toldPast leg side = record { number = sideNumber side; marks = leg ∷ side ∷ []; values = [] }
-
+-- the core's, of six legs that the door let in
 unfoldable pub toldLegs : LegsSolved → Told
 toldLegs (AllAngles j) = givenJoints j
-toldLegs (Past leg side) = toldPast leg side
+toldLegs (Past n k) = legRefused n k

@@ -98,18 +98,23 @@ ikRefusal f c =
     ∷ unless (permittedFeet footLimit f && permittedConfiguration c) 2
     ∷ [])
 
--- a leg's coxa angle, by its leg
+-- Request K2: "Refusal 6 shall mean 90 degrees or more, and a new number the other side"; "8 for -90 degrees or less". Of a coxa at this
+-- angle; 0 where it is short of both
+unfoldable pub pastRefusal : Float → ℕ
+pastRefusal a = firstOf (when (pastPositive a) 6 ∷ when (pastNegative a) 8 ∷ [])
+
+-- by leg: its computed coxa angle, and its refusal
 abbrev pub coxaOf : Feet → Configuration → Leg → Float
 coxaOf f c l = coxaAngle (foot f l) (leg c l)
 
--- Request K2: "Refusal 6 shall mean 90 degrees or more, and a new number the other side"; "8 for -90 degrees or less". Of one leg; 0 where
--- it is short of both
-unfoldable pub sideRefusal : Feet → Configuration → Leg → ℕ
-sideRefusal f c l = firstOf (when (pastPositive (coxaOf f c l)) 6 ∷ when (pastNegative (coxaOf f c l)) 8 ∷ [])
+abbrev pub sideRefusal : Feet → Configuration → Leg → ℕ
+sideRefusal f c l = pastRefusal (coxaOf f c l)
 
--- the door first; then "the first failing leg in the source's order still answers", so "leg order first"; else eighteen angles
+-- "the first failing leg in the source's order still answers", so "leg order first"; else eighteen angles
+unfoldable pub legsTold : Feet → Configuration → Told
+legsTold f c =
+    firstLeg (row (sideRefusal f c)) 0 (givenJoints (joints (λ l. legAngles (foot f l) (c .body) (leg c l))))
+
+-- the door first
 unfoldable pub ikTold : Feet → Configuration → Told
-ikTold f c =
-    answer (ikRefusal f c)
-    (firstLeg (row (sideRefusal f c)) 0
-    (givenJoints (joints (λ l. legAngles (foot f l) (c .body) (leg c l)))))
+ikTold f c = answer (ikRefusal f c) (legsTold f c)

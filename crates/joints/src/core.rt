@@ -9,8 +9,8 @@ use legs::Point;
 ghost use mathlib.Core.Bool.{_||_};
 ghost use mathlib.Core.Path.{_≡_};
 ghost use Rattle.joints.specs.Answers.{toldLegs};
-ghost use Rattle.joints.specs.Inverse.{relativeVector, getAlphaAngle, corrected, pastPositive, pastNegative};
-ghost use Rattle.joints.specs.How.{distances, heading, solvedAngles, pastAt, pastBy, legsTold};
+ghost use Rattle.joints.specs.Inverse.{relativeVector, getAlphaAngle, corrected, pastPositive, pastNegative, legsTold};
+ghost use Rattle.joints.specs.How.{distances, heading, solvedAngles, pastAt, pastBy};
 ghost use Rattle.joints.specs.Forward.{fromMotor, standing, standingFeet};
 
 // Rust's `to_radians` of 90 and 150 degrees: 3fc90fdb and 40278d36.
@@ -31,14 +31,14 @@ pub struct Heading {
     pub distances: Distances,
 }
 
-// A leg that is past its limit: its number in row order, 0 to 5, and its side, 1 at 90 degrees or more, 2 at -90 degrees or less.
+// A leg that is past its limit: its number in row order, 0 to 5, and its refusal, 6 at 90 degrees or more, 8 at -90 degrees or less.
 // Where no leg is past its limit, both are 0.
 pub struct PastLeg {
     pub leg: u32,
-    pub side: u32,
+    pub refusal: u32,
 }
 
-// What six legs answer: their angles, or the first leg that is past its limit, and its side.
+// What six legs answer: their angles, or the refusal of the first leg that is past its limit, and that leg.
 pub enum LegsSolved {
     Joints(Joints),
     Past(u32, u32),
@@ -124,14 +124,20 @@ fn is_past(angle: f32) -> bool
     (angle >= NINETY) | (angle <= -NINETY)
 }
 
-// A leg that is past its limit, with the side that its coxa's angle says.
+// A leg that is past its limit, with the refusal of the side that its coxa's angle is on.
 fn past_at(leg: u32, angle: f32) -> PastLeg
     ensures { λ r. ⌜ r ≡ pastAt leg angle ⌝ }
 {
     if angle >= NINETY {
-        PastLeg { leg: leg, side: 1 }
+        PastLeg {
+            leg: leg,
+            refusal: 6,
+        }
     } else {
-        PastLeg { leg: leg, side: 2 }
+        PastLeg {
+            leg: leg,
+            refusal: 8,
+        }
     }
 }
 
@@ -159,7 +165,7 @@ fn first_past(
     } else if is_past(right_rear) {
         past_at(5, right_rear)
     } else {
-        PastLeg { leg: 0, side: 0 }
+        PastLeg { leg: 0, refusal: 0 }
     }
 }
 
@@ -183,7 +189,7 @@ pub fn calculate_ik(feet: Feet, config: Configuration) -> LegsSolved
         left_rear.target_angle,
         right_rear.target_angle,
     );
-    if past.side == 0 {
+    if past.refusal == 0 {
         LegsSolved::Joints(Joints {
             left_front: calculate_ik_for_leg(left_front, body, config.left_front),
             left_middle: calculate_ik_for_leg(left_middle, body, config.left_middle),
@@ -193,7 +199,7 @@ pub fn calculate_ik(feet: Feet, config: Configuration) -> LegsSolved
             right_rear: calculate_ik_for_leg(right_rear, body, config.right_rear),
         })
     } else {
-        LegsSolved::Past(past.leg, past.side)
+        LegsSolved::Past(past.refusal, past.leg)
     }
 }
 

@@ -37,19 +37,13 @@ pub fn ik_refused(feet: Feet, config: Configuration) -> u32
     }
 }
 
-// A leg past its limit is named: refusal 6 at 90 degrees or more, 8 at -90 degrees or less.
+// A leg past its limit is named, with its refusal.
 fn answered(legs: core::LegsSolved) -> Solution
     ensures { λ r. ⌜ r ≡ answered legs ⌝ }
 {
     match legs {
         core::LegsSolved::Joints(joints) => Solution::Solved(joints),
-        core::LegsSolved::Past(leg, side) => {
-            if side == 1 {
-                Solution::LegRefused(6, leg)
-            } else {
-                Solution::LegRefused(8, leg)
-            }
-        }
+        core::LegsSolved::Past(refusal, leg) => Solution::LegRefused(refusal, leg),
     }
 }
 

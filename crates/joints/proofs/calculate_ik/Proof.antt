@@ -1,4 +1,5 @@
 -- `joints::calculate_ik` meets its contract: refused at the door, or what six legs answer.
+use mathlib.Core.Path.{_∙_}
 use Rattle.joints.specs.Inverse.{ikTold}
 use borrow.Author.Tests.{eq-eqb, ne-eqb}
 use Rattle.joints.proofs.PastLimit.{told-answered}
@@ -8,13 +9,12 @@ use Rattle.joints.proofs.calculate_ik.Tie as tie
 returns : tie.Need-returns
 unfolding ikTold
 returns c =
-    let a = c .before .before .before .before .args in
     simp (
       c .answered .ensures,
       ← c .before .before .before .ik-refused .ensures,
       eq-eqb _ 0 (c .before .before .if1 .taken),
     )
-    (told-answered (a .feet) (a .config) (c .before .calculate-ik .result) (c .before .calculate-ik .ensures))
+    (told-answered (c .before .calculate-ik .result) ∙ c .before .calculate-ik .ensures)
 
 returns-2 : tie.Need-returns-2
 unfolding ikTold

@@ -4,24 +4,25 @@ use mathlib.Core.Path.{_≡_, sym, _∙_}
 use mathlib.Core.List.{List, [], _∷_}
 use lib.ListN.{drop}
 use Prim.Native.Nat.{ℕ}
-use Rattle.joints.specs.How.{sideOf, firstPast, pastBy}
+use Rattle.joints.specs.Inverse.{pastRefusal}
+use Rattle.joints.specs.How.{firstPast, pastBy}
 use Rattle.joints.proofs.PastLimit.{past-leg, short-leg}
 use Rattle.joints.proofs.core.first_past.Statement.{statement}
 use Rattle.joints.proofs.core.first_past.Tie as tie
 
-abbrev sides : tie.Start → List ℕ
-sides s =
-    sideOf (s .args .left-front)
-    ∷ sideOf (s .args .right-front)
-    ∷ sideOf (s .args .left-middle)
-    ∷ sideOf (s .args .right-middle)
-    ∷ sideOf (s .args .left-rear)
-    ∷ sideOf (s .args .right-rear)
+abbrev refusals : tie.Start → List ℕ
+refusals s =
+    pastRefusal (s .args .left-front)
+    ∷ pastRefusal (s .args .right-front)
+    ∷ pastRefusal (s .args .left-middle)
+    ∷ pastRefusal (s .args .right-middle)
+    ∷ pastRefusal (s .args .left-rear)
+    ∷ pastRefusal (s .args .right-rear)
     ∷ []
 
 -- the first k are short of their limits: the rest say what all say
 abbrev Rest : tie.Start → ℕ → Type 0
-Rest s k = firstPast (drop k (sides s)) k ≡ firstPast (sides s) 0
+Rest s k = firstPast (drop k (refusals s)) k ≡ firstPast (refusals s) 0
 
 abbrev of1 : tie.Else1 → tie.Start
 of1 c = c .before .before
