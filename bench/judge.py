@@ -67,8 +67,8 @@ class Judge:
         if got == want:
             return None
         name, g, w = line.split(" ")[0], got.split(), want.split()
-        if name == "ik" and kinds(got, want) in (("leg", "leg"), ("leg", "ok"), ("ok", "leg")):
-            return past_limit(line, g)
+        if name in ("ik", "iks") and "leg" in kinds(got, want) and set(kinds(got, want)) <= {"leg", "out", "ok"}:
+            return past_limit(line, g) or reached(line, got)
         if not w or w[0] != "ok" or not g or g[0] != "ok":
             return "another refusal"
         if name in ("sin", "cos"):
@@ -80,7 +80,7 @@ class Judge:
             return self.step(name, g, w)
         if name == "plan":
             return self.plan(line, g, w)
-        if name == "ik":
+        if name in ("ik", "iks"):
             return self.row("joints", g[1:], w[1:], 2.0 ** -16)
         if name == "fk":
             return self.row("forward kinematics", g[1:], w[1:], 2.0 ** -17)
@@ -88,7 +88,9 @@ class Judge:
 
 
 def kinds(*answers):
-    return tuple("leg" if re.fullmatch("R [68] [0-5]", a) else a.split(" ")[0] for a in answers)
+    """`leg` where one is past its limit, `out` where one is out of reach."""
+    kind = lambda a: "leg" if re.fullmatch("R [68] [0-5]", a) else "out" if re.fullmatch("R (9|10) [0-5]", a) else a.split(" ")[0]
+    return tuple(kind(a) for a in answers)
 
 
 def single(x):
@@ -106,15 +108,37 @@ def coxa_angles(line):
 
 
 def past_limit(line, got):
-    """Of an answer to `ik` that names a leg where the reference has another or none, or names none: no leg before the one that it names,
-    or no leg at all, is past its limit by more than 2^-16, and the one that it names is at most that short of its side."""
+    """Of an answer that names a leg past its limit where the reference has another or none, or names none: no leg before the one that it
+    names, or no leg at all, is past its limit by more than 2^-16, and the one that it names is at most that short of its side."""
     angles, right, slack = list(coxa_angles(line)), math.pi / 2, 2.0 ** -16
-    number, leg = (int(got[1]), int(got[2])) if got[0] == "R" else (0, 6)
+    number, leg = (int(got[1]), int(got[2])) if got[0] == "R" and got[1] in "68" else (0, 6)
     if any(abs(a) > right + slack for a in angles[:leg]):
         return "a leg before it is past its limit"
     if number == 6 and angles[leg] < right - slack or number == 8 and angles[leg] > slack - right:
         return "the leg that it names is not past its limit there"
     return None
+
+
+def out_of_reach(line):
+    """What the strict solver answers where no leg is past its limit, in f32: the first leg that is out of reach, or `ok`."""
+    f = floats(line.split()[1:])
+    feet, (coxa, femur, tibia), legs = f[:18], f[18:21], f[23:]
+    for l in range(6):
+        x, y, z = (single(feet[3 * l + k] - legs[6 * l + k]) for k in range(3))
+        sideways = single(single(math.sqrt(single(single(x * x) + single(y * y)))) - coxa)
+        far = single(math.sqrt(single(single(sideways * sideways) + single(z * z))))
+        if far > single(femur + tibia):
+            return f"R 9 {l}"
+        if far < abs(single(femur - tibia)):
+            return f"R 10 {l}"
+    return "ok"
+
+
+def reached(line, got):
+    """Of an answer that names no leg past its limit where the reference does."""
+    kind = kinds(got)[0]
+    right = kind == "leg" or (out_of_reach(line) if line.startswith("iks ") else "ok") == (got if kind == "out" else "ok")
+    return None if right else "how far the feet are says something else"
 
 
 def turns_well(start, relaxed, standing):

@@ -20,7 +20,7 @@ ROOM = {
     "update": "rows", "move": "moves", "move_feet": "moves", "point_iter": "moves",
     "next_point": "moves", "feet_iter": "moves", "next_feet": "moves", "longest_distance": "moves", "walk": "walks",
     "walk_feet": "walks", "invert": "commands", "flag": "commands", "default": "commands", "new": "commands",
-    "command": "commands", "should_move": "commands", "plan": "planner", "ik": "joints", "fk": "joints",
+    "command": "commands", "should_move": "commands", "plan": "planner", "ik": "joints", "ik_strict": "joints", "fk": "joints",
 }
 # Entries once more, with the state after a step: for bench/every alone, counted nowhere.
 ONCE_MORE = ["probe_next_step", "probe_next_timed", "probe_next_even"]
@@ -194,7 +194,9 @@ def deepest(elf, scratch):
             deep[f], path[f] = frames[f] + below[0], below[1]
         return deep[f]
 
-    top = max((depth(f), f) for f, n in name_at.items() if n.startswith("probe_"))
+    entries = sorted(((depth(f), f) for f, n in name_at.items() if n.startswith("probe_")), reverse=True)
+    print("  stack by entry: " + ", ".join(f"{name_at[f][6:]} {d}" for d, f in entries))
+    top = entries[0]
     chain, f = [], top[1]
     while f is not None:
         chain.append(f"{name_at[f]} {frames[f]}")

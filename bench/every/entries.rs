@@ -35,6 +35,7 @@ extern "C" {
     fn probe_next_even(s: *const f32, n: usize, t: u32, a: u32, es: u64, en: u32, ps: u64, pn: u32, out: *mut f32, m: usize, o: *mut f32, i: usize, p: *mut f32, j: usize, q: *mut f32, k: usize, height: &mut f32, descent: &mut f32, s: &mut u64, ns: &mut u32, mark: &mut u32) -> u32;
     fn probe_plan(s: *const f32, n: usize, t: u32, a: u32, seconds: u64, nanoseconds: u32, out: *mut f32, m: usize) -> u32;
     fn probe_ik(s: *const f32, n: usize, out: *mut f32, m: usize) -> u32;
+    fn probe_ik_strict(s: *const f32, n: usize, out: *mut f32, m: usize) -> u32;
     fn probe_fk(s: *const f32, n: usize, out: *mut f32, m: usize) -> u32;
 }
 
@@ -516,23 +517,33 @@ fn planner(i: &Input, want: u32, w: &mut Worst) -> bool {
 }
 
 /// To the bit over the library's functions, refusals 6 and 8 and their leg included; over Rust's, joints within 2^-16, and another leg or
-/// side only where a coxa angle is within 2^-16 of a limit.
-fn inverse_kinematics(i: &Input, want: u32, w: &mut Worst) -> bool {
+/// side only where a coxa angle is within 2^-16 of a limit. Where no leg is past its limit, the strict one looks at how far the feet are.
+fn solved(i: &Input, want: u32, w: &mut Worst, strict: bool) -> bool {
     let mut out = [HELD; 18];
-    let n = unsafe { probe_ik(i.at(0), 59, out.as_mut_ptr(), 18) };
+    let n = unsafe { if strict { probe_ik_strict(i.at(0), 59, out.as_mut_ptr(), 18) } else { probe_ik(i.at(0), 59, out.as_mut_ptr(), 18) } };
     if want != 0 {
         return n == want && held(&out);
     }
     let (feet, body) = (i.feet(0), i.body());
     let ours: [(f32, Point); 6] = std::array::from_fn(|l| inverse::<Ours>(feet[l], &body, &i.leg(l)));
     let rust: [(f32, Point); 6] = std::array::from_fn(|l| inverse::<Rust>(feet[l], &body, &i.leg(l)));
-    if n != first_past(ours.map(|e| e.0)) || !right_within(n, rust.map(|e| e.0)) {
+    let past = first_refused(ours.map(|e| side(e.0)));
+    let out_of_reach = first_refused(std::array::from_fn(|l| if strict { reach(feet[l], &body, &i.leg(l)) } else { 0 }));
+    if n != (if past != 0 { past } else { out_of_reach }) || !right_within(past, rust.map(|e| e.0)) {
         return false;
     }
     if n != 0 {
         return held(&out);
     }
     is_at(&out, &ours.map(|e| e.1)) && (0..18).all(|k| w.near(out[k], rust[k / 3].1[k % 3], 1.0 / 65536.0))
+}
+
+fn inverse_kinematics(i: &Input, want: u32, w: &mut Worst) -> bool {
+    solved(i, want, w, false)
+}
+
+fn strict_inverse_kinematics(i: &Input, want: u32, w: &mut Worst) -> bool {
+    solved(i, want, w, true)
 }
 
 /// To the bit over the library's functions; over Rust's within 2^-17 m.
@@ -574,7 +585,7 @@ pub struct Entry {
 }
 
 impl Entry {
-    /// The lowest number that applies, 6 and 8 apart.
+    /// The lowest number that applies, those of a leg apart.
     pub fn refusal(&self, i: &Input) -> u32 {
         let t = &self.takes;
         if t.any {
@@ -648,6 +659,7 @@ pub fn entries() -> Vec<Entry> {
         entry("even step", step_rows(Pace::Even).to_vec(), both, true, three, even_step),
         entry("planner", [of(&[(36, FOOT)]), of(&told)].concat(), period, true, rows, planner),
         entry("inverse kinematics", [of(&[(18, FOOT)]), configuration()].concat(), none, true, &[], inverse_kinematics),
+        entry("strict inverse kinematics", [of(&[(18, FOOT)]), configuration()].concat(), none, true, &[], strict_inverse_kinematics),
         entry("forward kinematics", [of(&[(18, MOTOR)]), configuration()].concat(), none, true, &[], forward_kinematics),
     ]
 }

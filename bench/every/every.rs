@@ -295,8 +295,12 @@ impl Run {
             self.input.f[last] *= 0.03125;
             self.input.f[last] = self.input.f[last].max(WALK_MOVE.0);
         }
-        if self.entry.name == "inverse kinematics" {
+        if self.entry.name.ends_with("inverse kinematics") {
             (0..6).for_each(|l| self.aim(l));
+        }
+        if self.entry.name == "strict inverse kinematics" {
+            let at = self.random.next();
+            (0..6).for_each(|l| self.put(l, at));
         }
     }
 
@@ -355,6 +359,34 @@ impl Run {
             1 => f[at + 3] = neighbour(away + right.to_radians(), r & 64 != 0),
             2 => (f[3 * l], f[3 * l + 1], f[3 * l + 2], f[at], f[at + 1], f[at + 2], f[20]) = (f[18], 0.0, 0.0, 0.0, 0.0, 0.0, f[19]),
             _ => (),
+        }
+    }
+
+    /// Leg l of a strict inverse: its foot is put within reach of its coxa's end, at times at an end of the reach or a place past it, at times
+    /// well out of it.
+    fn put(&mut self, l: usize, six: u64) {
+        let (r, at) = (self.random.next(), 23 + 6 * l);
+        let f = &mut self.input.f;
+        let (far, near) = (f[19] + f[20], (f[19] - f[20]).abs());
+        let part = (r >> 40) as f32 / 16777216.0;
+        let (down, straight) = ((r >> 16 & 255) as f32 / 64.0, six & 3 == 0);
+        let d = match r & 63 {
+            0 => far * 1.25,
+            1 => near * 0.75,
+            2..=4 => neighbour(far, r & 64 != 0),
+            5..=7 => neighbour(near, r & 64 != 0),
+            8..=23 if straight => far,
+            24..=39 if straight => near,
+            _ => near + (far - near) * part,
+        };
+        let (sideways, up) = if straight { (f[18] + d, 0.0) } else { (f[18] + d * down.sin().abs(), d * down.cos()) };
+        let turn = 1.3 * (part - 0.5) - f[at + 3];
+        if straight {
+            (f[at], f[at + 1], f[at + 2], f[at + 3]) = (0.0, 0.0, 0.0, 0.0);
+            (f[3 * l], f[3 * l + 1], f[3 * l + 2]) = (sideways, 0.0, up);
+        } else {
+            (0..3).for_each(|k| f[at + k] *= 0.25);
+            (f[3 * l], f[3 * l + 1], f[3 * l + 2]) = (f[at] + sideways * turn.cos(), f[at + 1] + sideways * turn.sin(), f[at + 2] + up);
         }
     }
 

@@ -317,9 +317,24 @@ pub fn side(angle: f32) -> u32 {
     }
 }
 
-/// The first leg in row order that is past its limit: its refusal and 256 times the leg, or 0.
-pub fn first_past(angles: [f32; 6]) -> u32 {
-    (0..6).find(|&l| side(angles[l]) != 0).map_or(0, |l| side(angles[l]) + 256 * l as u32)
+/// The first leg in row order that is refused: its refusal and 256 times the leg, or 0.
+pub fn first_refused(refusals: [u32; 6]) -> u32 {
+    (0..6).find(|&l| refusals[l] != 0).map_or(0, |l| refusals[l] + 256 * l as u32)
+}
+
+/// A leg's refusal by how far its foot is from its coxa's end: 9 above the f32 sum of femur and tibia, 10 below their f32 difference, else 0.
+pub fn reach(foot: Point, body: &Body, leg: &Leg) -> u32 {
+    let [coxa, femur, tibia, ..] = *body;
+    let v = [foot[0] - leg[0], foot[1] - leg[1], foot[2] - leg[2]];
+    let sideways = (v[0] * v[0] + v[1] * v[1]).sqrt() - coxa;
+    let far = (sideways * sideways + v[2] * v[2]).sqrt();
+    if far > femur + tibia {
+        9
+    } else if far < (femur - tibia).abs() {
+        10
+    } else {
+        0
+    }
 }
 
 /// Whether this answer is right for angles that are known to within 2^-16: no leg before the one that it names, or no leg at all, is past

@@ -10,7 +10,8 @@ HERE = os.path.dirname(os.path.abspath(__file__))
 LIBRARY = sys.argv[1]
 STATE = "a.is_state(i, pace, [&i.f[..18], ours.as_flattened(), &i.f[36..54]], &i.f[54..56])"
 SIDES = "6\n    } else if angle <= (-90f32).to_radians() {\n        8"
-FIRST = "(0..6).find(|&l| side(angles[l]) != 0)"
+ENDS = "9\n    } else if far < (femur - tibia).abs() {\n        10"
+FIRST = "(0..6).find(|&l| refusals[l] != 0)"
 LEVEL = "if source && horizontal(c.start, c.target) == 0.0"
 # what is read wrongly, where, the right words, the wrong ones
 WRONG = [
@@ -43,7 +44,16 @@ WRONG = [
     ("6 and 8 exchanged", "judge.rs", SIDES, SIDES.replace("6", "x").replace("8", "6").replace("x", "8")),
     ("6 on both sides", "judge.rs", SIDES, SIDES.replace("8", "6")),
     ("the last leg past its limit", "judge.rs", FIRST, FIRST.replace(".find", ".rev().find")),
-    ("a 6 before any 8", "judge.rs", FIRST, "(0..6).find(|&l| side(angles[l]) == 6).or((0..6).find(|&l| side(angles[l]) == 8))"),
+    ("a 6 before any 8", "judge.rs", FIRST, "(0..6).find(|&l| refusals[l] == 6).or(" + FIRST + ")"),
+    ("at the sum is too far", "judge.rs", "far > femur + tibia", "far >= femur + tibia"),
+    ("the exact sum", "judge.rs", "far > femur + tibia", "far as f64 > femur as f64 + tibia as f64"),
+    ("at the difference is too near", "judge.rs", "far < (femur - tibia).abs()", "far <= (femur - tibia).abs()"),
+    ("the difference with its sign", "judge.rs", "far < (femur - tibia).abs()", "far < femur - tibia"),
+    ("9 and 10 exchanged", "judge.rs", ENDS, ENDS.replace("10", "x").replace("9", "10").replace("x", "9")),
+    ("how far from the coxa's place", "judge.rs", "- coxa;\n    let far", ";\n    let far"),
+    ("how far sideways alone", "judge.rs", "let far = (sideways * sideways + v[2] * v[2]).sqrt()", "let far = sideways.abs()"),
+    ("reach before sides", "entries.rs", "if past != 0 { past } else { out_of_reach }", "if out_of_reach != 0 { out_of_reach } else { past }"),
+    ("a 9 before any 10", "judge.rs", FIRST, "(0..6).find(|&l| refusals[l] == 9).or(" + FIRST + ")"),
     ("legs counted in field order", "judge.rs", "256 * l as u32", "256 * [0, 3, 1, 4, 2, 5][l]"),
     ("legs counted from the rear", "judge.rs", "256 * l as u32", "256 * (5 - l as u32)"),
     ("the coxa's z without 0.0 *", "judge.rs", "leg[2] + 0.0 * coxa_length + femur_x", "leg[2] + femur_x"),

@@ -322,10 +322,10 @@ fn answer(line: &str) -> Parsed<String> {
             f.done()?;
             told(plan(&s, &r, tri, &c), |r| row(&r))
         }
-        "ik" => {
+        "ik" | "iks" => {
             let (r, c) = (f.row()?, f.config()?);
             f.done()?;
-            match inverse(&r, &c) {
+            match if name == "ik" { inverse(&r, &c) } else { inverse_strict(&r, &c) } {
                 Err((n, Some(leg))) => format!("R {n} {leg}"),
                 Err((n, None)) => format!("R {n}"),
                 Ok(a) => "ok".to_string() + &a.map(|a| float(a.coxa) + &float(a.femur) + &float(a.tibia)).concat(),

@@ -565,8 +565,9 @@ fn alpha(a: f32, b: f32, c: f32) -> f32 {
     (-1_f32).max((1_f32).min(upper / bottom)).acos()
 }
 
-/// One leg; a refusal says the side.
-fn ik_leg(target: &Point, body: &Config, leg: &LegConfig) -> Result<Angles, Refusal> {
+/// One leg, and how far its foot is from its coxa's end; a refusal says the side. Put into both solvers, as it was into the one.
+#[inline(always)]
+fn ik_leg(target: &Point, body: &Config, leg: &LegConfig) -> Result<(Angles, f32), Refusal> {
     let v = Point { x: target.x - leg.position.x, y: target.y - leg.position.y, z: target.z - leg.position.z };
     let target_angle = v.y.atan2(v.x) + leg.angle_offset;
     let horizontal = (v.x.powi(2) + v.y.powi(2)).sqrt() - body.coxa_length;
@@ -580,24 +581,48 @@ fn ik_leg(target: &Point, body: &Config, leg: &LegConfig) -> Result<Angles, Refu
     if target_angle <= (-90_f32).to_radians() {
         return Err(8);
     }
-    Ok(Angles {
+    let angles = Angles {
         coxa: 150_f32.to_radians() + target_angle,
         femur: (leg.femur_correction + body.femur_offset + (by_femur + ground)).abs(),
         tibia: (leg.tibia_correction + body.tibia_offset + by_tibia).abs(),
-    })
+    };
+    Ok((angles, reach))
 }
 
 /// A refusal and, where it names one, the leg's place in a row.
 pub type LegRefusal = (Refusal, Option<usize>);
 
-pub fn inverse(feet: &Row, config: &Config) -> Result<[Angles; 6], LegRefusal> {
+#[inline(always)]
+fn let_in(feet: &Row, config: &Config) -> Result<(), LegRefusal> {
     let mut d = Door::new();
     d.row(&FOOT, feet);
     config.seen(&mut d);
-    d.open().map_err(|n| (n, None))?;
+    d.open().map_err(|n| (n, None))
+}
+
+pub fn inverse(feet: &Row, config: &Config) -> Result<[Angles; 6], LegRefusal> {
+    let_in(feet, config)?;
     let mut r = [Angles { coxa: 0.0, femur: 0.0, tibia: 0.0 }; 6];
     for l in 0..6 {
-        r[l] = ik_leg(&feet[l], config, &config.legs[l]).map_err(|n| (n, Some(l)))?;
+        r[l] = ik_leg(&feet[l], config, &config.legs[l]).map_err(|n| (n, Some(l)))?.0;
+    }
+    Ok(r)
+}
+
+/// Not in the source: where it solves all six legs, the first that cannot reach its foot refuses.
+pub fn inverse_strict(feet: &Row, config: &Config) -> Result<[Angles; 6], LegRefusal> {
+    let_in(feet, config)?;
+    let (mut r, mut far) = ([Angles { coxa: 0.0, femur: 0.0, tibia: 0.0 }; 6], [0.0; 6]);
+    for l in 0..6 {
+        (r[l], far[l]) = ik_leg(&feet[l], config, &config.legs[l]).map_err(|n| (n, Some(l)))?;
+    }
+    for l in 0..6 {
+        if far[l] > config.femur_length + config.tibia_length {
+            return Err((9, Some(l)));
+        }
+        if far[l] < (config.femur_length - config.tibia_length).abs() {
+            return Err((10, Some(l)));
+        }
     }
     Ok(r)
 }

@@ -26,6 +26,7 @@ mod ours {
         pub fn probe_even_step(s: *const f32, n: usize, t: u32, a: u32, es: u64, en: u32, ps: u64, pn: u32, out: *mut f32, m: usize) -> u32;
         pub fn probe_plan(s: *const f32, n: usize, t: u32, a: u32, seconds: u64, nanoseconds: u32, out: *mut f32, m: usize) -> u32;
         pub fn probe_ik(s: *const f32, n: usize, out: *mut f32, m: usize) -> u32;
+        pub fn probe_ik_strict(s: *const f32, n: usize, out: *mut f32, m: usize) -> u32;
         pub fn probe_fk(s: *const f32, n: usize, out: *mut f32, m: usize) -> u32;
     }
 }
@@ -169,15 +170,23 @@ mod theirs {
             }),
         }
     }
-    #[inline(never)]
-    pub fn ik(s: &[f32], out: &mut [f32]) -> u32 {
-        match inverse(&row(s, 0), &config(s)) {
+    #[inline(always)]
+    fn solution(r: Result<[Angles; 6], LegRefusal>, out: &mut [f32]) -> u32 {
+        match r {
             Ok(r) => {
                 store(&r.map(|a| Point { x: a.coxa, y: a.femur, z: a.tibia }), out);
                 0
             }
             Err((n, leg)) => n + 256 * leg.unwrap_or(0) as u32,
         }
+    }
+    #[inline(never)]
+    pub fn ik(s: &[f32], out: &mut [f32]) -> u32 {
+        solution(inverse(&row(s, 0), &config(s)), out)
+    }
+    #[inline(never)]
+    pub fn ik_strict(s: &[f32], out: &mut [f32]) -> u32 {
+        solution(inverse_strict(&row(s, 0), &config(s)), out)
     }
     #[inline(never)]
     pub fn fk(s: &[f32], out: &mut [f32]) -> u32 {
@@ -454,6 +463,14 @@ fn main() {
         1.0,
         |i| unsafe { kept(ours::probe_ik(past[i].as_ptr(), 59, row.as_mut_ptr(), 18)) },
         |i| kept(theirs::ik(&past[i], &mut other)),
+    );
+    poses.iter().for_each(|s| assert_eq!(theirs::ik_strict(s, &mut [0.0; 18]), 0));
+    both(
+        "strict inverse kinematics",
+        1.0,
+        1.0,
+        |i| unsafe { kept(ours::probe_ik_strict(poses[i].as_ptr(), 59, row.as_mut_ptr(), 18)) },
+        |i| kept(theirs::ik_strict(&poses[i], &mut other)),
     );
     let joints: Vec<Vec<f32>> = poses
         .iter()

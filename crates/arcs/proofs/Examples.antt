@@ -1,4 +1,4 @@
--- Angles by computation, as the joint solver meets them: of what lies straight ahead, straight to the left, to the left and back, and to
+-- Angles by computation, as the joint solvers meet them: of what lies straight ahead, straight to the left, to the left and back, and to
 -- the right and back. Straight to the left is 3fc90fda, one place under the f32 of 90 degrees.
 use mathlib.Core.Path.{_≡_, refl}
 use Prim.Native.Nat.{ℕ}
@@ -32,3 +32,14 @@ left-and-back = computed .2
 
 pub right-and-back : Angle 0xbe00_0000 0xbe80_0000 0xc002_3454
 right-and-back = computed .3
+
+-- straight ahead, at the ends of a leg's reach and one place past them
+pub at-the-ends :
+    Angle 0x3ea0_0000 0 0
+    × Angle 0x3ea0_0001 0 0
+    × Angle 0x3d80_0000 0 0
+    × Angle 0x3e40_0000 0 0
+    × Angle 0x3e3f_ffff 0 0
+    × Angle 0x3f88_8000 0 0
+unfolding atan2 finiteAtan2 inRadians angle wide sharp slope lean ratio arcTangent signBit mag hi lo units round finite ofBits
+at-the-ends = (refl, refl, refl, refl, refl, refl)

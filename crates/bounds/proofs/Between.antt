@@ -9,7 +9,7 @@ use native.Mathlib.Nat.{le-trans, le-refl, le-of-eq, lt-of-le-of-lt, lt-of-lt-of
 use native.Mathlib.Nat.{mul-lt-mul-of-pos-right, mul-pos}
 use native.Mathlib.Omega.{arith}
 use lib.Dec.{T, lit≤}
-use lib.Ieee.{Float, nan, inf, fin, binary32, down, add, sub, mul, div, neg, fits}
+use lib.Ieee.{Float, nan, inf, fin, binary32, down, add, sub, mul, div, neg, le, fits}
 use lib.Ieee.Exact.{HasValue}
 use lib.Ieee.Fits.{add-fits, sub-fits, mul-fits, div-fits, neg-fits}
 use lib.Ieee.Scale.{overflow}
@@ -22,7 +22,9 @@ use Rattle.units.proofs.Values.{hi-is, lo-is, units-of, one-side, plus-part, ma
 use Rattle.units.proofs.Add.{add-part, sub-part, neg-part}
 use Rattle.units.proofs.Multiply.{sq-value}
 use Rattle.units.proofs.Held.{grid-exact}
-use Rattle.units.proofs.Errors.{unity-pos, rounded-mono}
+use Rattle.units.proofs.Errors.{unity-pos, rounded-mono, rounded-zero}
+use Rattle.units.proofs.Order.{le-part}
+use Rattle.units.proofs.Whole.{total}
 use Rattle.units.proofs.Door.{finite-is, Ends, permitted, permits-part}
 use Rattle.units.proofs.Values.{Signed, signed, plus, minus}
 use Rattle.units.proofs.Bounds.{Result, mul-most, div-most}
@@ -85,6 +87,10 @@ module _ {n p m q : ℕ} {x y : Float} (a : Between n p x) (b : Between m q y) w
       (sub-part binary32 x y (hi x) (lo x) (hi y) (lo y) (a .ok) (b .ok) (fine (i - j) (p + m) P I) (fine (j - i) (n + q) N J))
       (kept (j - i) (n + q) N J)
       (kept (i - j) (p + m) P I)
+
+-- ---- what is not negative has no lower part
+nothing : (i u : ℕ) → i ≤ 0 * u → i ≡ 0
+nothing i u h = omega arith
 
 -- ---- the two parts together: one of them is nothing
 together : (i j k : ℕ) → (i ≡ 0) ⊎ (j ≡ 0) → i ≤ k → j ≤ k → i + j ≤ k
@@ -183,13 +189,66 @@ pub flip-between : {n p : ℕ} {x : Float} → Between n p x → Between p n (ne
 flip-between {n} {p} {x} b =
     made p n (neg x) (lo x) (hi x) (neg-fits binary32 x (b .held)) (neg-part binary32 x (hi x) (lo x) (b .ok)) (b .high) (b .low)
 
+-- ---- of two that are not negative, the magnitude of the difference is at most the sum
+-- the larger less the smaller, rounded, and nothing besides
+less-below-more : (A B k l : ℕ) → k ≡ 0 → l ≡ 0
+    → rounded (A + l - (k + B)) unity + rounded (k + B - (A + l)) unity + rounded (k + l - (A + B)) unity
+    ≤ 0 + rounded (A + B - (k + l)) unity
+less-below-more A B k l e d = by-order (total (A + l) (k + B))
+  where
+    none : rounded (k + l - (A + B)) unity ≡ 0
+    none = rounded-zero (k + l - (A + B)) (omega (arith, e, d))
+
+    first : (u v w z : ℕ) → u ≡ 0 → v ≤ z → w ≡ 0 → u + v + w ≤ 0 + z
+    first u v w z a b c = omega arith
+
+    second : (u v w z : ℕ) → u ≤ z → v ≡ 0 → w ≡ 0 → u + v + w ≤ 0 + z
+    second u v w z a b c = omega arith
+
+    by-order : (A + l ≤ k + B) ⊎ (k + B ≤ A + l)
+        → rounded (A + l - (k + B)) unity + rounded (k + B - (A + l)) unity + rounded (k + l - (A + B)) unity
+        ≤ 0 + rounded (A + B - (k + l)) unity
+    by-order (inl h) =
+        first _ _ _ _ (rounded-zero (A + l - (k + B)) (omega (arith, h)))
+        (rounded-mono (k + B - (A + l)) (A + B - (k + l)) (omega (arith, e, d, h))) none
+    by-order (inr h) =
+        second _ _ _ _ (rounded-mono (A + l - (k + B)) (A + B - (k + l)) (omega (arith, e, d, h)))
+        (rounded-zero (k + B - (A + l)) (omega (arith, h))) none
+
+module _ {p q : ℕ} {x y : Float} (a : Between 0 p x) (b : Between 0 q y) (K : p + q < 2 ^ 24) where
+  pub difference-below-sum : T (le (magnitude (sub binary32 x y)) (add binary32 x y))
+  difference-below-sum =
+      let k = nothing (lo x) unity (a .low) in
+      let l = nothing (lo y) unity (b .low) in
+      le-part binary32 (magnitude (sub binary32 x y)) (add binary32 x y) _ 0 _ _
+      (magnitude-part (sub binary32 x y) _ _
+      (sub-part binary32 x y (hi x) (lo x) (hi y) (lo y) (a .ok) (b .ok)
+      (held (hi x + lo y - (lo x + hi y)) (one (hi x) (hi y) (lo x) (lo y) unity p q (a .high) l))
+      (held (lo x + hi y - (hi x + lo y)) (other (hi x) (hi y) (lo x) (lo y) unity p q (b .high) k))))
+      (add-part binary32 x y (hi x) (lo x) (hi y) (lo y) (a .ok) (b .ok)
+      (held (hi x + hi y - (lo x + lo y)) (less unity (hi x) (hi y) (lo x + lo y) p q (a .high) (b .high)))
+      (held (lo x + lo y - (hi x + hi y)) (neither (hi x) (hi y) (lo x) (lo y) unity p q k l)))
+      .1 (less-below-more (hi x) (hi y) (lo x) (lo y) k l)
+    where
+      held : (w : ℕ) → w ≤ (p + q) * unity → rounded w unity < overflow binary32
+      held w = fine w (p + q) K
+
+      one : (A B k l u p q : ℕ) → A ≤ p * u → l ≡ 0 → A + l - (k + B) ≤ (p + q) * u
+      one A B k l u p q h e = omega arith
+
+      other : (A B k l u p q : ℕ) → B ≤ q * u → k ≡ 0 → k + B - (A + l) ≤ (p + q) * u
+      other A B k l u p q h e = omega arith
+
+      neither : (A B k l u p q : ℕ) → k ≡ 0 → l ≡ 0 → k + l - (A + B) ≤ (p + q) * u
+      neither A B k l u p q e d = omega arith
+
 -- ---- a root: z is the f32 b, and a is at most its square
 module _ {a : ℕ} {x : Float} (h : Between 0 a x) (b : ℕ) (z : Float) (Z : T (fits binary32 z)) (is : mag z ≡ b * unity)
     (enough : a ≤ b * b) where
   pub root-between : Between 0 b (squareRoot x)
   root-between =
       let t : T (finite x) = subst T (sym (finite-is x)) (part-finite binary32 x (hi x) (lo x) (h .ok)) in
-      let l : lo x ≡ 0 = none (lo x) unity (h .low) in
+      let l : lo x ≡ 0 = nothing (lo x) unity (h .low) in
       let m : mag x ≤ a * unity = le-trans (le-of-eq (mag-parts x)) (alone (hi x) (lo x) (a * unity) l (h .high)) in
       let s : mag x * unity ≤ b * unity * (b * unity) =
       le-trans (mul-le-mul-right unity m)
@@ -204,9 +263,6 @@ module _ {a : ℕ} {x : Float} (h : Between 0 a x) (b : ℕ) (z : Float) (Z : T 
             (le-trans r (le-of-eq is));
       }
     where
-      none : (i u : ℕ) → i ≤ 0 * u → i ≡ 0
-      none i u h = omega arith
-
       alone : (i j k : ℕ) → j ≡ 0 → i ≤ k → i + j ≤ k
       alone i j k e h = omega arith
 

@@ -39,6 +39,14 @@ fn crossed() -> Feet {
     feet
 }
 
+// The same, but for the left front foot, which is 5 cm beyond its leg.
+fn stretched() -> Feet {
+    let mut feet = relaxed();
+    let beyond = at(0.302, 0.262);
+    feet.left_front = beyond;
+    feet
+}
+
 fn at(x: f32, y: f32) -> Point {
     Point {
         x: x,
@@ -119,7 +127,7 @@ fn step(state: EvenStepIterator) {
 }
 
 fn solve(feet: Feet) {
-    match hopper::joints::calculate_ik(feet, crawler()) {
+    match hopper::joints::calculate_ik_strict(feet, crawler()) {
         Solution::Solved(joints) => show(joints),
         Solution::Refused(n) => refused(n),
         Solution::LegRefused(n, leg) => leg_refused(n, leg),
@@ -186,6 +194,7 @@ fn main() {
     // a stick that is not there, and one that is turned too far
     driven(0.0 / 0.0, 0.0, 0.0);
     driven(0.035, 0.0, 5.0);
-    // the right middle foot on the left side
+    // the right middle foot on the left side, and the left front foot out of reach
     solve(crossed());
+    solve(stretched());
 }

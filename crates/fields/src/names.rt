@@ -67,6 +67,8 @@ pub const PLAN: u64 = 0x706c_616e;
 
 pub const IK: u64 = 0x696b;
 
+pub const IKS: u64 = 0x69_6b73;
+
 pub const FK: u64 = 0x666b;
 
 pub const INV: u64 = 0x69_6e76;
@@ -103,7 +105,7 @@ pub fn shape(name: u64) -> u64 {
         SHOULD | CWITH => 0x2_6415,
         CNEW => 0x2,
         PLAN => 0x3352_6415,
-        IK | FK => 0x37,
+        IK | IKS | FK => 0x37,
         INV | FLAG => 0x5,
         _ => 0,
     }

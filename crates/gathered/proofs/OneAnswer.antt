@@ -163,6 +163,7 @@ use Rattle.planner.proofs.turns.applied_feet.Reads as planner-turns-applied-fee
 use Rattle.planner.proofs.turns.rotation_between.Reads as planner-turns-rotation-between
 use Rattle.joints.proofs.ik_refused.Reads as joints-ik-refused
 use Rattle.joints.proofs.calculate_ik.Reads as joints-calculate-ik
+use Rattle.joints.proofs.calculate_ik_strict.Reads as joints-calculate-ik-strict
 use Rattle.joints.proofs.fk_refused.Reads as joints-fk-refused
 use Rattle.joints.proofs.calculate_fk.Reads as joints-calculate-fk
 use Rattle.joints.proofs.configuration.body_finite.Reads as joints-configuration-body-finite
@@ -180,8 +181,12 @@ use Rattle.joints.proofs.core.distances_of.Reads as joints-core-distances-of
 use Rattle.joints.proofs.core.get_alpha_angle.Reads as joints-core-get-alpha-angle
 use Rattle.joints.proofs.core.corrected.Reads as joints-core-corrected
 use Rattle.joints.proofs.core.set_out.Reads as joints-core-set-out
+use Rattle.joints.proofs.core.all_set_out.Reads as joints-core-all-set-out
 use Rattle.joints.proofs.core.calculate_ik_for_leg.Reads as joints-core-calculate-ik-for-leg
+use Rattle.joints.proofs.core.farthest.Reads as joints-core-farthest
+use Rattle.joints.proofs.core.nearest.Reads as joints-core-nearest
 use Rattle.joints.proofs.core.calculate_ik.Reads as joints-core-calculate-ik
+use Rattle.joints.proofs.core.calculate_ik_strict.Reads as joints-core-calculate-ik-strict
 use Rattle.joints.proofs.core.from_motor.Reads as joints-core-from-motor
 use Rattle.joints.proofs.core.calculate_fk_for_leg.Reads as joints-core-calculate-fk-for-leg
 use Rattle.joints.proofs.core.calculate_fk.Reads as joints-core-calculate-fk
@@ -642,6 +647,9 @@ settled-joints-ik-refused i = one-value
 pub settled-joints-calculate-ik : Settled (joints-calculate-ik.Post tt)
 settled-joints-calculate-ik i = one-answer joints.told joints-one.told-loses-nothing
 
+pub settled-joints-calculate-ik-strict : Settled (joints-calculate-ik-strict.Post tt)
+settled-joints-calculate-ik-strict i = one-answer joints.told joints-one.told-loses-nothing
+
 pub settled-joints-fk-refused : Settled (joints-fk-refused.Post tt)
 settled-joints-fk-refused i = one-value
 
@@ -693,11 +701,23 @@ settled-joints-core-corrected i = one-value
 pub settled-joints-core-set-out : Settled (joints-core-set-out.Post tt)
 settled-joints-core-set-out i = one-value
 
+pub settled-joints-core-all-set-out : Settled (joints-core-all-set-out.Post tt)
+settled-joints-core-all-set-out i = one-value
+
 pub settled-joints-core-calculate-ik-for-leg : Settled (joints-core-calculate-ik-for-leg.Post tt)
 settled-joints-core-calculate-ik-for-leg i = one-value
 
+pub settled-joints-core-farthest : Settled (joints-core-farthest.Post tt)
+settled-joints-core-farthest i = one-value
+
+pub settled-joints-core-nearest : Settled (joints-core-nearest.Post tt)
+settled-joints-core-nearest i = one-value
+
 pub settled-joints-core-calculate-ik : Settled (joints-core-calculate-ik.Post tt)
 settled-joints-core-calculate-ik i = one-answer joints.toldLegs joints-one.toldLegs-loses-nothing
+
+pub settled-joints-core-calculate-ik-strict : Settled (joints-core-calculate-ik-strict.Post tt)
+settled-joints-core-calculate-ik-strict i = one-answer joints.toldLegs joints-one.toldLegs-loses-nothing
 
 pub settled-joints-core-from-motor : Settled (joints-core-from-motor.Post tt)
 settled-joints-core-from-motor i = one-value

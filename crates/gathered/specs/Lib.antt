@@ -55,4 +55,5 @@ pub use Rattle.joints.specs.Configured as JointsConfigured
 pub use Rattle.joints.specs.Degrees as JointsDegrees
 pub use Rattle.joints.specs.Answers as JointsAnswers
 pub use Rattle.joints.specs.Inverse as JointsInverse
+pub use Rattle.joints.specs.Strict as JointsStrict
 pub use Rattle.joints.specs.Forward as JointsForward

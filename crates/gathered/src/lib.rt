@@ -13,6 +13,7 @@ pub use commands::default_step_time;
 pub use joints::Solution;
 pub use joints::calculate_fk;
 pub use joints::calculate_ik;
+pub use joints::calculate_ik_strict;
 pub use joints::configuration::Body;
 pub use joints::configuration::Configuration;
 pub use joints::configuration::LegConfiguration;

@@ -85,4 +85,5 @@ pub mod joints {
     pub use gathered::Solution;
     pub use gathered::calculate_fk;
     pub use gathered::calculate_ik;
+    pub use gathered::calculate_ik_strict;
 }

@@ -6,39 +6,39 @@ use lib.Ieee.{Float, nan, binary32, ofBits, round, add, sub, lt, le, eq}
 use Rattle.numbers.specs.Told.{Told, refused}
 use Rattle.numbers.specs.Door.{finite}
 use Rattle.numbers.specs.Limits.{over, minus, footLimit, legLength, offset, correction, rotation}
-use Rattle.legs.specs.Legs.{foot, joints, finitePoint, permittedPoint}
+use Rattle.legs.specs.Legs.{finitePoint, permittedPoint}
 use Rattle.legs.specs.Vectors as vectors
 use Rattle.legs.specs.declared.Point.{Point}
 use Rattle.legs.specs.declared.Feet.{Feet}
 use Rattle.arcs.proofs.Examples as angles
-use Rattle.joints.specs.Configured.{leg, finiteLeg, permittedLeg, finiteBody, permittedBody}
+use Rattle.joints.specs.Configured.{finiteLeg, permittedLeg, finiteBody, permittedBody}
 use Rattle.joints.specs.Configured.{finiteConfiguration, permittedConfiguration}
 use Rattle.joints.specs.Degrees.{ninety, minusNinety}
 use Rattle.joints.specs.Answers.{givenJoints, legRefused}
-use Rattle.joints.specs.Inverse.{coxaAngle, legAngles, ikRefusal, pastRefusal, legsTold, ikTold}
+use Rattle.joints.specs.Inverse.{coxaAngle, allAngles, ikRefusal, pastRefusal, legsTold, ikTold}
 use Rattle.joints.specs.declared.configuration.LegConfiguration.{LegConfiguration}
 use Rattle.joints.specs.declared.configuration.Configuration.{Configuration}
 
-abbrev bits : ℕ → Float
+abbrev pub bits : ℕ → Float
 bits = ofBits binary32
 
-abbrev at : Float → Float → Float → Point
+abbrev pub at : Float → Float → Float → Point
 at x y z = record { x = x; y = y; z = z }
 
-abbrev ahead : Point
+abbrev pub ahead : Point
 ahead = at (bits 0x3e80_0000) (bits 0) (bits 0)
 
-abbrev left-and-back : Point
+abbrev pub left-and-back : Point
 left-and-back = at (bits 0xbe00_0000) (bits 0x3e80_0000) (bits 0)
 
-abbrev right-and-back : Point
+abbrev pub right-and-back : Point
 right-and-back = at (bits 0xbe00_0000) (bits 0xbe80_0000) (bits 0)
 
 abbrev to-the-side : Point
 to-the-side = at (bits 0) (bits 0x3f80_0000) (bits 0)
 
--- a leg turned by an angle, and six legs, of which left rear is
-abbrev turned : Float → LegConfiguration
+-- a leg turned by an angle
+abbrev pub turned : Float → LegConfiguration
 turned a =
     record {
       position = at (bits 0) (bits 0) (bits 0);
@@ -47,41 +47,45 @@ turned a =
       «tibia_correction» = bits 0;
     }
 
-abbrev one-leg : LegConfiguration
+abbrev pub one-leg : LegConfiguration
 one-leg = turned (bits 0)
 
-abbrev left-rear-turned : Float → Configuration
-left-rear-turned a =
+-- a femur and a tibia of these lengths, and two legs of their own: right middle and left rear
+abbrev pub crawler-of : Float → Float → LegConfiguration → LegConfiguration → Configuration
+crawler-of femur tibia rm lr =
     record {
       body =
           record {
             «coxa_length» = bits 0x3d80_0000;
-            «femur_length» = bits 0x3e00_0000;
-            «tibia_length» = bits 0x3e00_0000;
+            «femur_length» = femur;
+            «tibia_length» = tibia;
             «femur_offset» = bits 0;
             «tibia_offset» = bits 0;
           };
       «left_front» = one-leg;
       «left_middle» = one-leg;
-      «left_rear» = turned a;
+      «left_rear» = lr;
       «right_front» = one-leg;
-      «right_middle» = one-leg;
+      «right_middle» = rm;
       «right_rear» = one-leg;
     }
 
-abbrev crawler : Configuration
+abbrev left-rear-turned : Float → Configuration
+left-rear-turned a = crawler-of (bits 0x3e00_0000) (bits 0x3e00_0000) one-leg (turned a)
+
+abbrev pub crawler : Configuration
 crawler = left-rear-turned (bits 0)
 
 -- six feet in row order
-abbrev six : Point → Point → Point → Point → Point → Point → Feet
+abbrev pub six : Point → Point → Point → Point → Point → Point → Feet
 six lf rf lm rm lr rr =
     record { «left_front» = lf; «left_middle» = lm; «left_rear» = lr; «right_front» = rf; «right_middle» = rm; «right_rear» = rr }
 
-abbrev all-ahead : Feet
+abbrev pub all-ahead : Feet
 all-ahead = six ahead ahead ahead ahead ahead ahead
 
 -- ---- the angles of the coxas
-angle-ahead : coxaAngle ahead one-leg ≡ bits 0
+pub angle-ahead : coxaAngle ahead one-leg ≡ bits 0
 unfolding coxaAngle vectors.minus sub add ofBits round
 angle-ahead = rw (angles.straight-ahead) refl
 
@@ -89,7 +93,7 @@ angle-left : coxaAngle left-and-back one-leg ≡ bits 0x4002_3454
 unfolding coxaAngle vectors.minus sub add ofBits round
 angle-left = rw (angles.left-and-back) refl
 
-angle-right : coxaAngle right-and-back one-leg ≡ bits 0xc002_3454
+pub angle-right : coxaAngle right-and-back one-leg ≡ bits 0xc002_3454
 unfolding coxaAngle vectors.minus sub add ofBits round
 angle-right = rw (angles.right-and-back) refl
 
@@ -111,8 +115,8 @@ angle-turned = (
 )
 
 -- ---- what is told
-abbrev solved : Feet → Configuration → Told
-solved f c = givenJoints (joints (λ l. legAngles (foot f l) (c .body) (leg c l)))
+abbrev pub solved : Feet → Configuration → Told
+solved f c = givenJoints (allAngles f c)
 
 -- the request's table
 pub table :

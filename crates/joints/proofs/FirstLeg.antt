@@ -125,7 +125,15 @@ module _ (g : Leg → ℕ) (t : Told) where
       of-six (inl (p, q)) = inl (λ l. sym (in-row g l) ∙ p (legNumber l), q)
       of-six (inr (i, a, q)) = inr (named i a q (numbered-leg i (a .there)))
 
-  -- and back: no second leg fits
+  -- and back
+  pub all-pass : ((l : Leg) → g l ≡ 0) → firstLeg (row g) 0 t ≡ t
+  all-pass p = go first-leg
+    where
+      go : AllPass ⊎ OneNamed → firstLeg (row g) 0 t ≡ t
+      go (inl (r, q)) = q
+      go (inr (l, F, q)) = absurd (F .refused (p l))
+
+  -- no second leg fits
   pub the-first : (l : Leg) → First g l → firstLeg (row g) 0 t ≡ legRefused (g l) (legNumber l)
   the-first l F = go first-leg
     where

@@ -1,16 +1,13 @@
 -- What upper rooms may cite of the solvers. Where joints are told, each leg's angles are those of its own foot, and no leg is past its
 -- limit; a leg is named exactly where it is the first that is past its limit, with the number of that side. A cut quotient.
 use mathlib.Core.Path.{_≡_, refl, sym, ap, ap₂, _∙_, subst}
-use mathlib.Core.Bool.{Bool, true, false}
-use mathlib.Core.List.{[], _∷_}
 use mathlib.Core.Logic.{_⊎_, inl, inr, _↔_}
-use Prim.Native.Nat.{ℕ, suc, _<_}
+use Prim.Native.Nat.{ℕ, _<_}
 use native.Mathlib.Omega.{arith}
 use lib.Dec.{eqb}
-use lib.ListN.{length}
 use lib.Ieee.{nan, lt, ofBits, neg}
-use borrow.Author.Tests.{eq-eqb, eqb-true}
-use Rattle.numbers.specs.Told.{Told, refused, choose}
+use borrow.Author.Tests.{eq-eqb}
+use Rattle.numbers.specs.Told.{Told, refused}
 use Rattle.legs.specs.Legs.{Leg, leftFront, rightFront, leftMiddle, rightMiddle, leftRear, rightRear}
 use Rattle.legs.specs.Legs.{row, foot, angles, joints}
 use Rattle.legs.specs.declared.Feet.{Feet}
@@ -18,12 +15,13 @@ use Rattle.legs.specs.declared.LegAngles.{LegAngles}
 use Rattle.legs.specs.declared.Joints.{Joints}
 use Rattle.joints.specs.Answers.{givenJoints, legRefused, firstLeg, told}
 use Rattle.joints.specs.Configured.{leg}
-use Rattle.joints.specs.Inverse.{one, cut, coxaOf, legAngles, ikRefusal, sideRefusal, legsTold, ikTold}
+use Rattle.joints.specs.Inverse.{one, cut, coxaOf, legAngles, allAngles, ikRefusal, sideRefusal, legsTold, ikTold}
 use Rattle.joints.specs.declared.Solution.the-variants.{Solved, LegRefused}
 use Rattle.joints.specs.declared.configuration.Configuration.{Configuration}
-use Rattle.joints.proofs.OneAnswer.{floats, marked, one-refusal, joints-from-values}
+use Rattle.joints.proofs.OneAnswer.{floats, one-refusal, joints-from-values, with-floats, with-a-mark, past-the-door}
 use Rattle.joints.proofs.FirstLeg.{legNumber, First, AllPass, OneNamed, first-leg, the-first}
-use Rattle.joints.proofs.Sides.{PastSide, Short, past-side, short, a-number, refused-at, passed-at}
+use Rattle.joints.proofs.TwoTests.{a-number}
+use Rattle.joints.proofs.Sides.{PastSide, Short, past-side, short, refused-at, passed-at}
 
 angles-of-joints : (g : Leg → LegAngles) (l : Leg) → angles (joints g) l ≡ g l
 angles-of-joints g leftFront = refl
@@ -33,52 +31,29 @@ angles-of-joints g rightMiddle = refl
 angles-of-joints g leftRear = refl
 angles-of-joints g rightRear = refl
 
-not-none : (n : ℕ) → suc n ≡ 0 → ⊥
-not-none n h = omega (arith, h)
-
 module _ (f : Feet) (c : Configuration) where
-  abbrev own : Leg → LegAngles
-  own l = legAngles (foot f l) (c .body) (leg c l)
-
   abbrev solution : Told
-  solution = givenJoints (joints own)
+  solution = givenJoints (allAngles f c)
 
   abbrev legs-say : Told
   legs-say = firstLeg (row (sideRefusal f c)) 0 solution
 
-  -- what is told and is no refusal of the door's, the legs say
-  past-the-door :
-      (t : Told) (n : ℕ) (b : Bool)
-      → eqb n 0 ≡ b
-      → (t ≡ refused n → ⊥)
-      → t ≡ choose b legs-say (refused n)
-      → (n ≡ 0) × (t ≡ legs-say)
-  past-the-door t n true e other h = (eqb-true n 0 e, h)
-  past-the-door t n false e other h = absurd (other h)
-
-  -- joints have floats, which no refusal has, and a leg's refusal has a mark
-  with-floats : (j : Joints) (t : Told) → t .values ≡ [] → givenJoints j ≡ t → ⊥
-  with-floats j t none h = not-none 17 (ap length (floats h ∙ none))
-
-  with-a-mark : (n k : ℕ) (t : Told) → t .marks ≡ [] → legRefused n k ≡ t → ⊥
-  with-a-mark n k t none h = not-none 0 (ap length (marked h ∙ none))
-
-  solved : (j : Joints) → told (Solved j) ≡ ikTold f c → ((l : Leg) → sideRefusal f c l ≡ 0) × (j ≡ joints own)
+  solved : (j : Joints) → told (Solved j) ≡ ikTold f c → ((l : Leg) → sideRefusal f c l ≡ 0) × (j ≡ allAngles f c)
   unfolding ikTold legsTold
   solved j e =
       let n = ikRefusal f c in
       by-first (first-leg (sideRefusal f c) solution)
-      (past-the-door (givenJoints j) n (eqb n 0) refl (with-floats j (refused n) refl) e .1)
+      (past-the-door (givenJoints j) legs-say n (eqb n 0) refl (with-floats j (refused n) refl) e .1)
     where
       by-first : AllPass (sideRefusal f c) solution ⊎ OneNamed (sideRefusal f c) solution
           → givenJoints j ≡ legs-say
-          → ((l : Leg) → sideRefusal f c l ≡ 0) × (j ≡ joints own)
-      by-first (inl (p, q)) h = (p, joints-from-values j (joints own) (floats (h ∙ q)))
+          → ((l : Leg) → sideRefusal f c l ≡ 0) × (j ≡ allAngles f c)
+      by-first (inl (p, q)) h = (p, joints-from-values j (allAngles f c) (floats (h ∙ q)))
       by-first (inr (l, F, q)) h = absurd (with-floats j (legRefused (sideRefusal f c l) (legNumber l)) refl (h ∙ q))
 
   -- ---- where joints are told
   pub solved-leg : (j : Joints) → told (Solved j) ≡ ikTold f c → (l : Leg) → angles j l ≡ legAngles (foot f l) (c .body) (leg c l)
-  solved-leg j e l = ap (λ (i : Joints). angles i l) (solved j e .1) ∙ angles-of-joints own l
+  solved-leg j e l = ap (λ (i : Joints). angles i l) (solved j e .1) ∙ angles-of-joints (λ k. legAngles (foot f k) (c .body) (leg c k)) l
 
   pub no-leg-past : (j : Joints) → told (Solved j) ≡ ikTold f c → (l : Leg) → Short (coxaOf f c l)
   no-leg-past j e l = short (coxaOf f c l) (solved j e .0 l)
@@ -96,7 +71,7 @@ module _ (f : Feet) (c : Configuration) where
   unfolding ikTold legsTold
   answers n k e =
       let r = ikRefusal f c in
-      let (open-door, h) = past-the-door (legRefused n k) r (eqb r 0) refl (with-a-mark n k (refused r) refl) e in
+      let (open-door, h) = past-the-door (legRefused n k) legs-say r (eqb r 0) refl (with-a-mark n k (refused r) refl) e in
       by-first (first-leg (sideRefusal f c) solution) open-door h
     where
       by-first : AllPass (sideRefusal f c) solution ⊎ OneNamed (sideRefusal f c) solution
@@ -124,7 +99,7 @@ module _ (f : Feet) (c : Configuration) where
       first : First (sideRefusal f c) (P .which)
       first =
           record {
-            refused = λ z. a-number (coxaOf f c (P .which)) n (P .past) (sym (refused-at (coxaOf f c (P .which)) n (P .past)) ∙ z);
+            refused = λ z. a-number 6 8 refl refl n _ _ (P .past) (sym (refused-at (coxaOf f c (P .which)) n (P .past)) ∙ z);
             before = λ m h. passed-at (coxaOf f c m) (P .before m (omega (arith, h, P .number)));
           }
 

@@ -1,8 +1,12 @@
 mod OnePass
-mod PastLimit
+mod LegsTold
 pub mod FirstLeg
+pub mod TwoTests
 pub mod Sides
+pub mod Reach
 pub mod Within
 pub mod OneAnswer
 pub mod Laws
+pub mod Strict
 mod Examples
+mod ReachExamples

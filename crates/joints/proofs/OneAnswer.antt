@@ -1,17 +1,21 @@
--- `told` loses nothing of an answer on joints, so no second answer fits a contract stated by it.
-use mathlib.Core.Path.{_≡_, ap, ap₂}
+-- `told` loses nothing of an answer on joints, so no second answer fits a contract stated by it, and no case is told like another.
+use mathlib.Core.Path.{_≡_, ap, ap₂, _∙_}
+use mathlib.Core.Bool.{Bool, true, false}
 use mathlib.Core.List.{List, [], _∷_}
-use lib.ListN.{getD}
+use native.Mathlib.Omega.{arith}
+use lib.Dec.{eqb}
+use lib.ListN.{length, getD}
 use lib.Ieee.{Float, nan}
-use Prim.Native.Nat.{ℕ}
-use Rattle.numbers.specs.Told.{Told}
+use Prim.Native.Nat.{ℕ, suc}
+use borrow.Author.Tests.{eqb-true}
+use Rattle.numbers.specs.Told.{Told, refused, choose}
 use Rattle.legs.specs.Legs.{row, angles, jointsOf, values}
 use Rattle.legs.specs.declared.Joints.{Joints}
-use Rattle.joints.specs.Answers.{legRefused, told, toldLegs}
+use Rattle.joints.specs.Answers.{givenJoints, legRefused, told, toldLegs}
 use Rattle.joints.specs.declared.Solution.{Solution}
 use Rattle.joints.specs.declared.Solution.the-variants.{Solved, Refused, LegRefused}
 use Rattle.joints.specs.declared.core.LegsSolved.{LegsSolved}
-use Rattle.joints.specs.declared.core.LegsSolved.the-variants.{Joints as AllAngles, Past}
+use Rattle.joints.specs.declared.core.LegsSolved.the-variants.{Joints as AllAngles, Refused as OneRefused}
 
 -- eighteen angles are settled by their floats
 joints-of : List Float → Joints
@@ -55,6 +59,27 @@ told-loses-nothing (LegRefused n k) (LegRefused m l) e = let (p, q) = one-refusa
 pub toldLegs-loses-nothing : (a b : LegsSolved) → toldLegs a ≡ toldLegs b → a ≡ b
 unfolding toldLegs
 toldLegs-loses-nothing (AllAngles i) (AllAngles j) e = ap AllAngles (joints-from-values i j (floats e))
-toldLegs-loses-nothing (AllAngles i) (Past n k) e = let v : values jointsOf (row (angles i)) ≡ [] = floats e in cc
-toldLegs-loses-nothing (Past n k) (AllAngles j) e = let v : [] ≡ values jointsOf (row (angles j)) = floats e in cc
-toldLegs-loses-nothing (Past n k) (Past m l) e = let (p, q) = one-refusal n k m l e in ap₂ Past p q
+toldLegs-loses-nothing (AllAngles i) (OneRefused n k) e = let v : values jointsOf (row (angles i)) ≡ [] = floats e in cc
+toldLegs-loses-nothing (OneRefused n k) (AllAngles j) e = let v : [] ≡ values jointsOf (row (angles j)) = floats e in cc
+toldLegs-loses-nothing (OneRefused n k) (OneRefused m l) e = let (p, q) = one-refusal n k m l e in ap₂ OneRefused p q
+
+-- ---- no case is told like another
+not-none : (n : ℕ) → suc n ≡ 0 → ⊥
+not-none n h = omega (arith, h)
+
+-- joints have floats, which no refusal has, and a leg's refusal has a mark
+pub with-floats : (j : Joints) (t : Told) → t .values ≡ [] → givenJoints j ≡ t → ⊥
+with-floats j t none h = not-none 17 (ap length (floats h ∙ none))
+
+pub with-a-mark : (n k : ℕ) (t : Told) → t .marks ≡ [] → legRefused n k ≡ t → ⊥
+with-a-mark n k t none h = not-none 0 (ap length (marked h ∙ none))
+
+-- what is told and is no refusal of the door's, is said behind it
+pub past-the-door :
+    (t behind : Told) (n : ℕ) (b : Bool)
+    → eqb n 0 ≡ b
+    → (t ≡ refused n → ⊥)
+    → t ≡ choose b behind (refused n)
+    → (n ≡ 0) × (t ≡ behind)
+past-the-door t behind n true e other h = (eqb-true n 0 e, h)
+past-the-door t behind n false e other h = absurd (other h)

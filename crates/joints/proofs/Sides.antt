@@ -1,8 +1,6 @@
 -- The two sides of a coxa's limit: what a leg's refusal says of its angle, and that no float is past both. Assumes nothing.
 use mathlib.Core.Path.{_≡_, refl, sym, _∙_}
 use mathlib.Core.Bool.{Bool, true, false, _&&_, _||_, true≢false}
-use mathlib.Core.List.{[], _∷_}
-use mathlib.Core.Logic.{_⊎_, inl, inr}
 use Prim.Native.Nat.{ℕ, _*_, _<_}
 use native.Mathlib.Nat.{mul-pos}
 use native.Mathlib.Omega.{arith}
@@ -10,17 +8,17 @@ use lib.Dec.{eqb, lit<}
 use lib.Ieee.{Float, nan, inf, fin, ofBits, lt, eq, le, up, down}
 use lib.Ieee.Fits.{down-pos}
 use borrow.Author.Tests.{eqb-true}
-use Rattle.numbers.specs.Door.{when, firstOf}
 use Rattle.joints.specs.Degrees.{ninety, minusNinety}
 use Rattle.joints.specs.Inverse.{pastPositive, pastNegative, pastRefusal}
+use Rattle.joints.proofs.TwoTests.{Says, Neither, says, neither, refused-by, passed-by}
 
 -- past the limit on the side that the number says: 6 at 90 degrees or more, 8 at -90 degrees or less
 abbrev pub PastSide : ℕ → Float → Type 0
-PastSide n a = ((n ≡ 6) × (pastPositive a ≡ true)) ⊎ ((n ≡ 8) × (pastNegative a ≡ true))
+PastSide n a = Says 6 8 n (pastPositive a) (pastNegative a)
 
 -- on neither side
 abbrev pub Short : Float → Type 0
-Short a = (pastPositive a ≡ false) × (pastNegative a ≡ false)
+Short a = Neither (pastPositive a) (pastNegative a)
 
 -- ---- no float is past both: what is not negative is not at -90 degrees or less, what is negative is not at 90 degrees or more
 never-level : (x y : ℕ) (a b : Bool) → eqb x y ≡ a → eqb x 0 ≡ b → (x ≡ y → x ≡ 0 → ⊥) → (a && (false || b)) ≡ false
@@ -43,44 +41,20 @@ never-both-sides (fin false m e) h = right-some (m * up e * _) (_ * down e) (mul
 never-both-sides (fin true m e) h = absurd (true≢false (sym h ∙ left-some (_ * down e) (m * up e * _) (mul-pos (lit< tt) (down-pos e))))
 
 -- ---- a leg's refusal and its angle
--- by the two tests
-abbrev pub refusal : Bool → Bool → ℕ
-refusal u w = firstOf (when u 6 ∷ when w 8 ∷ [])
-
 module _ (a : Float) where
-  by-tests : (u w : Bool) → pastPositive a ≡ u → pastNegative a ≡ w → (refusal u w ≡ 0 → ⊥) → PastSide (refusal u w) a
-  by-tests true w e d h = inl (refl, e)
-  by-tests false true e d h = inr (refl, d)
-  by-tests false false e d h = absurd (h refl)
-
-  neither : (u w : Bool) → refusal u w ≡ 0 → (u ≡ false) × (w ≡ false)
-  neither true w h = absurd (omega (arith, h))
-  neither false true h = absurd (omega (arith, h))
-  neither false false h = (refl, refl)
-
   pub past-side : (pastRefusal a ≡ 0 → ⊥) → PastSide (pastRefusal a) a
   unfolding pastRefusal
-  past-side = by-tests (pastPositive a) (pastNegative a) refl refl
+  past-side = says 6 8 refl refl (pastPositive a) (pastNegative a)
 
   pub short : pastRefusal a ≡ 0 → Short a
   unfolding pastRefusal
-  short = neither (pastPositive a) (pastNegative a)
-
-  pub a-number : (n : ℕ) → PastSide n a → n ≡ 0 → ⊥
-  a-number n (inl (e, h)) z = omega (arith, e, z)
-  a-number n (inr (e, h)) z = omega (arith, e, z)
+  short = neither 6 8 refl refl (pastPositive a) (pastNegative a)
 
   -- and back
-  at-eight : (u w : Bool) → (u ≡ true → w ≡ false) → w ≡ true → refusal u w ≡ 8
-  at-eight true w not-both h = absurd (true≢false (sym h ∙ not-both refl))
-  at-eight false true not-both h = refl
-  at-eight false false not-both h = absurd (true≢false (sym h))
-
   pub refused-at : (n : ℕ) → PastSide n a → pastRefusal a ≡ n
   unfolding pastRefusal
-  refused-at n (inl (e, h)) = simp (e, h)
-  refused-at n (inr (e, h)) = at-eight (pastPositive a) (pastNegative a) (never-both-sides a) h ∙ sym e
+  refused-at n = refused-by 6 8 refl refl n (pastPositive a) (pastNegative a) (never-both-sides a)
 
   pub passed-at : Short a → pastRefusal a ≡ 0
   unfolding pastRefusal
-  passed-at (h, k) = simp (h, k)
+  passed-at = passed-by 6 8 refl refl (pastPositive a) (pastNegative a)

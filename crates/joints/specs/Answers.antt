@@ -1,5 +1,5 @@
--- Document 01's number and values for each case of an answer on joints, and request K2's: "both name the leg, 0 to 5 in 01's row order".
--- The leg is the one mark of such a refusal.
+-- Document 01's number and values for each case of an answer on joints, and request K2's: "both name the leg, 0 to 5 in 01's row order";
+-- so do the two of request K4. The leg is the one mark of such a refusal.
 use Prim.Native.Nat.{ℕ, suc}
 use mathlib.Core.List.{List, [], _∷_}
 use lib.Dec.{eqb}
@@ -9,7 +9,7 @@ use Rattle.legs.specs.declared.Joints.{Joints}
 use Rattle.joints.specs.declared.Solution.{Solution}
 use Rattle.joints.specs.declared.Solution.the-variants.{Solved, Refused, LegRefused}
 use Rattle.joints.specs.declared.core.LegsSolved.{LegsSolved}
-use Rattle.joints.specs.declared.core.LegsSolved.the-variants.{Joints as AllAngles, Past}
+use Rattle.joints.specs.declared.core.LegsSolved.the-variants.{Joints as AllAngles, Refused as OneRefused}
 
 -- eighteen angles, in row order
 abbrev pub givenJoints : Joints → Told
@@ -32,4 +32,4 @@ told (LegRefused n k) = legRefused n k
 -- the core's, of six legs that the door let in
 unfoldable pub toldLegs : LegsSolved → Told
 toldLegs (AllAngles j) = givenJoints j
-toldLegs (Past n k) = legRefused n k
+toldLegs (OneRefused n k) = legRefused n k

@@ -15,6 +15,7 @@ use Rattle.legs.specs.Vectors.{minus}
 use Rattle.legs.specs.declared.Point.{Point}
 use Rattle.legs.specs.declared.Feet.{Feet}
 use Rattle.legs.specs.declared.LegAngles.{LegAngles}
+use Rattle.legs.specs.declared.Joints.{Joints}
 use Rattle.joints.specs.Configured.{leg, finiteConfiguration, permittedConfiguration}
 use Rattle.joints.specs.Degrees.{ninety, minusNinety, oneFifty}
 use Rattle.joints.specs.Answers.{givenJoints, firstLeg}
@@ -110,10 +111,13 @@ coxaOf f c l = coxaAngle (foot f l) (leg c l)
 abbrev pub sideRefusal : Feet → Configuration → Leg → ℕ
 sideRefusal f c l = pastRefusal (coxaOf f c l)
 
+-- the angles of all six
+abbrev pub allAngles : Feet → Configuration → Joints
+allAngles f c = joints (λ l. legAngles (foot f l) (c .body) (leg c l))
+
 -- "the first failing leg in the source's order still answers", so "leg order first"; else eighteen angles
 unfoldable pub legsTold : Feet → Configuration → Told
-legsTold f c =
-    firstLeg (row (sideRefusal f c)) 0 (givenJoints (joints (λ l. legAngles (foot f l) (c .body) (leg c l))))
+legsTold f c = firstLeg (row (sideRefusal f c)) 0 (givenJoints (allAngles f c))
 
 -- the door first
 unfoldable pub ikTold : Feet → Configuration → Told

@@ -10,7 +10,8 @@ ghost use mathlib.Core.Bool.{_||_};
 ghost use mathlib.Core.Path.{_≡_};
 ghost use Rattle.joints.specs.Answers.{toldLegs};
 ghost use Rattle.joints.specs.Inverse.{relativeVector, getAlphaAngle, corrected, pastPositive, pastNegative, legsTold};
-ghost use Rattle.joints.specs.How.{distances, heading, solvedAngles, pastAt, pastBy};
+ghost use Rattle.joints.specs.Strict.{farthest, nearest, distanceRefusal, strictLegsTold};
+ghost use Rattle.joints.specs.How.{distances, heading, headings, solvedAngles, pastAt, earlier, firstPast, firstOutOfReach};
 ghost use Rattle.joints.specs.Forward.{fromMotor, standing, standingFeet};
 
 // Rust's `to_radians` of 90 and 150 degrees: 3fc90fdb and 40278d36.
@@ -31,17 +32,26 @@ pub struct Heading {
     pub distances: Distances,
 }
 
-// A leg that is past its limit: its number in row order, 0 to 5, and its refusal, 6 at 90 degrees or more, 8 at -90 degrees or less.
-// Where no leg is past its limit, both are 0.
-pub struct PastLeg {
+// Six legs that have set out.
+pub struct Headings {
+    pub left_front: Heading,
+    pub left_middle: Heading,
+    pub left_rear: Heading,
+    pub right_front: Heading,
+    pub right_middle: Heading,
+    pub right_rear: Heading,
+}
+
+// A leg that is refused: its number in row order, 0 to 5, and its refusal. Where no leg is refused, both are 0.
+pub struct RefusedLeg {
     pub leg: u32,
     pub refusal: u32,
 }
 
-// What six legs answer: their angles, or the refusal of the first leg that is past its limit, and that leg.
+// What six legs answer: their angles, or the refusal of the first leg that is refused, and that leg.
 pub enum LegsSolved {
     Joints(Joints),
-    Past(u32, u32),
+    Refused(u32, u32),
 }
 
 // From the coxa's place to the target.
@@ -98,6 +108,21 @@ pub fn set_out(target: Point, body: Body, leg: LegConfiguration) -> Heading
     }
 }
 
+// How six legs set out: all before one is solved, so that their roots are taken side by side.
+pub fn all_set_out(feet: Feet, config: Configuration) -> Headings
+    ensures { λ r. ⌜ r ≡ headings feet config ⌝ }
+{
+    let body = config.body;
+    Headings {
+        left_front: set_out(feet.left_front, body, config.left_front),
+        left_middle: set_out(feet.left_middle, body, config.left_middle),
+        left_rear: set_out(feet.left_rear, body, config.left_rear),
+        right_front: set_out(feet.right_front, body, config.right_front),
+        right_middle: set_out(feet.right_middle, body, config.right_middle),
+        right_rear: set_out(feet.right_rear, body, config.right_rear),
+    }
+}
+
 // The three angles of a leg that has set out.
 pub fn calculate_ik_for_leg(heading: Heading, body: Body, leg: LegConfiguration) -> LegAngles
     ensures { λ r. ⌜ r ≡ solvedAngles heading body leg ⌝ }
@@ -125,81 +150,139 @@ fn is_past(angle: f32) -> bool
 }
 
 // A leg that is past its limit, with the refusal of the side that its coxa's angle is on.
-fn past_at(leg: u32, angle: f32) -> PastLeg
+fn past_at(leg: u32, angle: f32) -> RefusedLeg
     ensures { λ r. ⌜ r ≡ pastAt leg angle ⌝ }
 {
     if angle >= NINETY {
-        PastLeg {
+        RefusedLeg {
             leg: leg,
             refusal: 6,
         }
     } else {
-        PastLeg {
+        RefusedLeg {
             leg: leg,
             refusal: 8,
         }
     }
 }
 
-// The first leg that is past its limit, of six in row order, by their coxas' angles.
-fn first_past(
-    left_front: f32,
-    right_front: f32,
-    left_middle: f32,
-    right_middle: f32,
-    left_rear: f32,
-    right_rear: f32,
-) -> PastLeg
-    ensures { λ r. ⌜ r ≡ pastBy «left_front» «right_front» «left_middle» «right_middle» «left_rear» «right_rear» ⌝ }
+// The first leg that is past its limit, of six that have set out.
+fn first_past(headings: Headings) -> RefusedLeg
+    ensures { λ r. ⌜ r ≡ firstPast headings ⌝ }
 {
-    if is_past(left_front) {
-        past_at(0, left_front)
-    } else if is_past(right_front) {
-        past_at(1, right_front)
-    } else if is_past(left_middle) {
-        past_at(2, left_middle)
-    } else if is_past(right_middle) {
-        past_at(3, right_middle)
-    } else if is_past(left_rear) {
-        past_at(4, left_rear)
-    } else if is_past(right_rear) {
-        past_at(5, right_rear)
+    if is_past(headings.left_front.target_angle) {
+        past_at(0, headings.left_front.target_angle)
+    } else if is_past(headings.right_front.target_angle) {
+        past_at(1, headings.right_front.target_angle)
+    } else if is_past(headings.left_middle.target_angle) {
+        past_at(2, headings.left_middle.target_angle)
+    } else if is_past(headings.right_middle.target_angle) {
+        past_at(3, headings.right_middle.target_angle)
+    } else if is_past(headings.left_rear.target_angle) {
+        past_at(4, headings.left_rear.target_angle)
+    } else if is_past(headings.right_rear.target_angle) {
+        past_at(5, headings.right_rear.target_angle)
     } else {
-        PastLeg { leg: 0, refusal: 0 }
+        RefusedLeg { leg: 0, refusal: 0 }
     }
 }
 
-// Six legs, in the source's order; the first that is past its limit answers for all. All set out before
-// one is solved, so that their roots are taken side by side.
+// How far from its coxa's end a foot may be, and how near: femur and tibia in one line, and folded.
+pub fn farthest(body: Body) -> f32
+    ensures { λ r. ⌜ r ≡ farthest body ⌝ }
+{
+    body.femur_length + body.tibia_length
+}
+
+pub fn nearest(body: Body) -> f32
+    ensures { λ r. ⌜ r ≡ nearest body ⌝ }
+{
+    numbers::core::absolute(body.femur_length - body.tibia_length)
+}
+
+// A leg whose foot is at this distance: where it is out of reach its refusal, 9 too far, 10 too near; else what legs after it say.
+fn out_of_reach(
+    leg: u32,
+    distance: f32,
+    farthest: f32,
+    nearest: f32,
+    later: RefusedLeg,
+) -> RefusedLeg
+    ensures { λ r. ⌜ r ≡ earlier (distanceRefusal distance farthest nearest) leg later ⌝ }
+{
+    if farthest < distance {
+        RefusedLeg {
+            leg: leg,
+            refusal: 9,
+        }
+    } else if distance < nearest {
+        RefusedLeg {
+            leg: leg,
+            refusal: 10,
+        }
+    } else {
+        later
+    }
+}
+
+// The first leg that is out of reach, of six that have set out: from the last to the first, each choosing without a branch.
+fn first_out_of_reach(six: Headings, body: Body) -> RefusedLeg
+    ensures { λ r. ⌜ r ≡ firstOutOfReach six body ⌝ }
+{
+    let far = farthest(body);
+    let near = nearest(body);
+    let none = RefusedLeg { leg: 0, refusal: 0 };
+    let from_5 = out_of_reach(5, six.right_rear.distances.distance, far, near, none);
+    let from_4 = out_of_reach(4, six.left_rear.distances.distance, far, near, from_5);
+    let from_3 = out_of_reach(3, six.right_middle.distances.distance, far, near, from_4);
+    let from_2 = out_of_reach(2, six.left_middle.distances.distance, far, near, from_3);
+    let from_1 = out_of_reach(1, six.right_front.distances.distance, far, near, from_2);
+    out_of_reach(0, six.left_front.distances.distance, far, near, from_1)
+}
+
+// Six legs, in the source's order; the first that is past its limit answers for all.
 pub fn calculate_ik(feet: Feet, config: Configuration) -> LegsSolved
     ensures { λ r. ⌜ toldLegs r ≡ legsTold feet config ⌝ }
 {
     let body = config.body;
-    let left_front = set_out(feet.left_front, body, config.left_front);
-    let right_front = set_out(feet.right_front, body, config.right_front);
-    let left_middle = set_out(feet.left_middle, body, config.left_middle);
-    let right_middle = set_out(feet.right_middle, body, config.right_middle);
-    let left_rear = set_out(feet.left_rear, body, config.left_rear);
-    let right_rear = set_out(feet.right_rear, body, config.right_rear);
-    let past = first_past(
-        left_front.target_angle,
-        right_front.target_angle,
-        left_middle.target_angle,
-        right_middle.target_angle,
-        left_rear.target_angle,
-        right_rear.target_angle,
-    );
+    let six = all_set_out(feet, config);
+    let past = first_past(six);
     if past.refusal == 0 {
         LegsSolved::Joints(Joints {
-            left_front: calculate_ik_for_leg(left_front, body, config.left_front),
-            left_middle: calculate_ik_for_leg(left_middle, body, config.left_middle),
-            left_rear: calculate_ik_for_leg(left_rear, body, config.left_rear),
-            right_front: calculate_ik_for_leg(right_front, body, config.right_front),
-            right_middle: calculate_ik_for_leg(right_middle, body, config.right_middle),
-            right_rear: calculate_ik_for_leg(right_rear, body, config.right_rear),
+            left_front: calculate_ik_for_leg(six.left_front, body, config.left_front),
+            left_middle: calculate_ik_for_leg(six.left_middle, body, config.left_middle),
+            left_rear: calculate_ik_for_leg(six.left_rear, body, config.left_rear),
+            right_front: calculate_ik_for_leg(six.right_front, body, config.right_front),
+            right_middle: calculate_ik_for_leg(six.right_middle, body, config.right_middle),
+            right_rear: calculate_ik_for_leg(six.right_rear, body, config.right_rear),
         })
     } else {
-        LegsSolved::Past(past.refusal, past.leg)
+        LegsSolved::Refused(past.refusal, past.leg)
+    }
+}
+
+// The same, strict: where no leg is past its limit, the first that is out of reach answers for all. The six legs are written out once more:
+// a function with two callers would not be put into either, and both would pay for that.
+pub fn calculate_ik_strict(feet: Feet, config: Configuration) -> LegsSolved
+    ensures { λ r. ⌜ toldLegs r ≡ strictLegsTold feet config ⌝ }
+{
+    let body = config.body;
+    let six = all_set_out(feet, config);
+    let past = first_past(six);
+    let out = first_out_of_reach(six, body);
+    if past.refusal != 0 {
+        LegsSolved::Refused(past.refusal, past.leg)
+    } else if out.refusal != 0 {
+        LegsSolved::Refused(out.refusal, out.leg)
+    } else {
+        LegsSolved::Joints(Joints {
+            left_front: calculate_ik_for_leg(six.left_front, body, config.left_front),
+            left_middle: calculate_ik_for_leg(six.left_middle, body, config.left_middle),
+            left_rear: calculate_ik_for_leg(six.left_rear, body, config.left_rear),
+            right_front: calculate_ik_for_leg(six.right_front, body, config.right_front),
+            right_middle: calculate_ik_for_leg(six.right_middle, body, config.right_middle),
+            right_rear: calculate_ik_for_leg(six.right_rear, body, config.right_rear),
+        })
     }
 }
 

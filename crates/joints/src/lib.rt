@@ -10,14 +10,15 @@ ghost use mathlib.Core.Path.{_≡_};
 ghost use Rattle.legs.specs.Answers.{told as toldFeet};
 ghost use Rattle.joints.specs.Answers.{told};
 ghost use Rattle.joints.specs.Inverse.{ikRefusal, ikTold};
+ghost use Rattle.joints.specs.Strict.{strictTold};
 ghost use Rattle.joints.specs.How.{answered};
 ghost use Rattle.joints.specs.Forward.{fkRefusal, fkTold};
 
 pub mod configuration;
 pub mod core;
 
-// What the solver answers: eighteen joint angles, or why not; where a leg is past its limit, the refusal's number and the leg,
-// 0 to 5 in row order.
+// What a solver answers: eighteen joint angles, or why not; where a leg is past its limit or out of reach, the refusal's number and the
+// leg, 0 to 5 in row order.
 pub enum Solution {
     Solved(Joints),
     Refused(u32),
@@ -37,13 +38,13 @@ pub fn ik_refused(feet: Feet, config: Configuration) -> u32
     }
 }
 
-// A leg past its limit is named, with its refusal.
+// A leg that is refused is named, with its refusal.
 fn answered(legs: core::LegsSolved) -> Solution
     ensures { λ r. ⌜ r ≡ answered legs ⌝ }
 {
     match legs {
         core::LegsSolved::Joints(joints) => Solution::Solved(joints),
-        core::LegsSolved::Past(refusal, leg) => Solution::LegRefused(refusal, leg),
+        core::LegsSolved::Refused(refusal, leg) => Solution::LegRefused(refusal, leg),
     }
 }
 
@@ -54,6 +55,19 @@ pub fn calculate_ik(feet: Feet, config: Configuration) -> Solution
     let n = ik_refused(feet, config);
     if n == 0 {
         answered(core::calculate_ik(feet, config))
+    } else {
+        Solution::Refused(n)
+    }
+}
+
+// The same where the leg can reach: a foot farther from its coxa's end than the f32 sum of femur and tibia, or nearer than the magnitude
+// of their f32 difference, is refused.
+pub fn calculate_ik_strict(feet: Feet, config: Configuration) -> Solution
+    ensures { λ r. ⌜ told r ≡ strictTold feet config ⌝ }
+{
+    let n = ik_refused(feet, config);
+    if n == 0 {
+        answered(core::calculate_ik_strict(feet, config))
     } else {
         Solution::Refused(n)
     }

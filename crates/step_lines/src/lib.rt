@@ -144,6 +144,14 @@ fn inverse(w: Words) -> Words {
     answers::solution(hopper::joints::calculate_ik(read::feet(w, 0), asked::configuration(w, 18)))
 }
 
+// iks: the same, strict.
+fn strict_inverse(w: Words) -> Words {
+    answers::solution(hopper::joints::calculate_ik_strict(
+        read::feet(w, 0),
+        asked::configuration(w, 18),
+    ))
+}
+
 // fk: a joints row and a configuration.
 fn forward(w: Words) -> Words {
     fields::answers::planned(hopper::joints::calculate_fk(
@@ -200,6 +208,7 @@ pub fn answered(name: u64, w: Words) -> Words {
         names::CDEF => default_command(),
         names::PLAN => plan(w),
         names::IK => inverse(w),
+        names::IKS => strict_inverse(w),
         names::FK => forward(w),
         names::INV => inverted(w),
         names::FLAG => flag(w),

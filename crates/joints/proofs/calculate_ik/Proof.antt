@@ -2,7 +2,7 @@
 use mathlib.Core.Path.{_∙_}
 use Rattle.joints.specs.Inverse.{ikTold}
 use borrow.Author.Tests.{eq-eqb, ne-eqb}
-use Rattle.joints.proofs.PastLimit.{told-answered}
+use Rattle.joints.proofs.LegsTold.{told-answered}
 use Rattle.joints.proofs.calculate_ik.Statement.{statement}
 use Rattle.joints.proofs.calculate_ik.Tie as tie
 
