@@ -8,6 +8,7 @@ use mathlib.Core.Logic.{_⊎_, inl, inr, _↔_}
 use Prim.Native.Nat.{ℕ, _<_}
 use native.Mathlib.Omega.{arith}
 use lib.Dec.{eqb}
+use lib.Ieee.{lt}
 use borrow.Author.Tests.{eq-eqb}
 use Rattle.numbers.specs.Told.{Told, refused, choose}
 use Rattle.bounds.specs.Between.{HeldFeet}
@@ -16,7 +17,7 @@ use Rattle.legs.specs.declared.Feet.{Feet}
 use Rattle.legs.specs.declared.Joints.{Joints}
 use Rattle.joints.specs.Answers.{givenJoints, legRefused, firstLeg, told}
 use Rattle.joints.specs.Inverse.{coxaOf, allAngles, ikRefusal, sideRefusal, legsTold, ikTold}
-use Rattle.joints.specs.Strict.{distanceOf, reachRefusal, strictLegsTold, strictTold}
+use Rattle.joints.specs.Strict.{farthest, nearest, distanceOf, reachRefusal, strictLegsTold, strictTold}
 use Rattle.joints.specs.declared.Solution.the-variants.{Solved, LegRefused}
 use Rattle.joints.specs.declared.configuration.Configuration.{Configuration}
 use Rattle.joints.proofs.OneAnswer.{one-refusal, with-floats, with-a-mark, past-the-door}
@@ -60,7 +61,10 @@ module _ (f : Feet) (c : Configuration) where
     strict : strict-legs ≡ solution
     old : old-legs ≡ solution
 
-  the-case : OnePast ⊎ (OneOut ⊎ AllSolved)
+  abbrev Case : Type 0
+  Case = OnePast ⊎ (OneOut ⊎ AllSolved)
+
+  the-case : Case
   the-case = by-side (first-leg (sideRefusal f c) in-reach)
     where
       by-reach : ((l : Leg) → sideRefusal f c l ≡ 0)
@@ -72,7 +76,7 @@ module _ (f : Feet) (c : Configuration) where
       by-reach p q (inr (l, F, s)) =
           inl (record { short = p; which = l; first = F; strict = q ∙ s; old = all-pass (sideRefusal f c) solution p })
 
-      by-side : AllPass (sideRefusal f c) in-reach ⊎ OneNamed (sideRefusal f c) in-reach → OnePast ⊎ (OneOut ⊎ AllSolved)
+      by-side : AllPass (sideRefusal f c) in-reach ⊎ OneNamed (sideRefusal f c) in-reach → Case
       by-side (inl (p, q)) = inr (by-reach p q (first-leg (reachRefusal f c) solution))
       by-side (inr (l, F, q)) =
           inl (record { which = l; first = F; strict = q; old = the-first (sideRefusal f c) solution l F })
@@ -102,7 +106,7 @@ module _ (f : Feet) (c : Configuration) where
   old-so t e h = rw (eq-eqb (ikRefusal f c) 0 e) h
 
   -- ---- where joints are told
-  all-solved : (j : Joints) → givenJoints j ≡ strict-legs → OnePast ⊎ (OneOut ⊎ AllSolved) → AllSolved
+  all-solved : (j : Joints) → givenJoints j ≡ strict-legs → Case → AllSolved
   all-solved j h (inl P) = absurd (with-floats j (legRefused _ _) refl (h ∙ P .strict))
   all-solved j h (inr (inl O)) = absurd (with-floats j (legRefused _ _) refl (h ∙ O .strict))
   all-solved j h (inr (inr A)) = A
@@ -123,7 +127,7 @@ module _ (f : Feet) (c : Configuration) where
       let (open-door, h) = old-joints-behind j e in
       strict-so (givenJoints j) open-door (by-case h the-case)
     where
-      by-case : givenJoints j ≡ old-legs → OnePast ⊎ (OneOut ⊎ AllSolved) → givenJoints j ≡ strict-legs
+      by-case : givenJoints j ≡ old-legs → Case → givenJoints j ≡ strict-legs
       by-case h (inl P) = absurd (with-floats j (legRefused _ _) refl (h ∙ P .old))
       by-case h (inr (inl O)) = absurd (O .first .refused (passed-in (c .body) (distanceOf f c (O .which)) (r (O .which))))
       by-case h (inr (inr A)) = h ∙ A .old ∙ sym (A .strict)
@@ -133,7 +137,7 @@ module _ (f : Feet) (c : Configuration) where
   unfolding ikTold legsTold strictTold strictLegsTold
   strict-refuses-alike t none = by-door (eqb (ikRefusal f c) 0)
     where
-      by-case : old-legs ≡ t → OnePast ⊎ (OneOut ⊎ AllSolved) → strict-legs ≡ t
+      by-case : old-legs ≡ t → Case → strict-legs ≡ t
       by-case h (inl P) = P .strict ∙ sym (P .old) ∙ h
       by-case h (inr (inl O)) = absurd (with-floats (allAngles f c) t none (sym (O .old) ∙ h))
       by-case h (inr (inr A)) = absurd (with-floats (allAngles f c) t none (sym (A .old) ∙ h))
@@ -166,7 +170,7 @@ module _ (f : Feet) (c : Configuration) where
       six-or-eight P (inl (q, u)) = inl q
       six-or-eight P (inr (q, u)) = inr q
 
-      by-case : ikRefusal f c ≡ 0 → legRefused n k ≡ strict-legs → OnePast ⊎ (OneOut ⊎ AllSolved) → FirstOut n k
+      by-case : ikRefusal f c ≡ 0 → legRefused n k ≡ strict-legs → Case → FirstOut n k
       by-case d h (inl P) =
           let (same-number, same-leg) = one-refusal n k (sideRefusal f c (P .which)) (legNumber (P .which)) (h ∙ P .strict) in
           absurd
@@ -209,6 +213,13 @@ module _ (f : Feet) (c : Configuration) where
             let R = strict-within f c F C (old-joints-behind j e .0) l in
             past-no-end (c .body) (distanceOf f c l) (R .straight .ok) (R .sum .ok) (R .least .ok) (w l))
 
+    -- 9 and 10 never meet in one leg
+    pub one-end : ikRefusal f c ≡ 0 → (l : Leg) → lt (farthest (c .body)) (distanceOf f c l) ≡ true
+        → lt (distanceOf f c l) (nearest (c .body)) ≡ false
+    one-end e l =
+        let R = strict-within f c F C e l in
+        never-both-ends (c .body) (distanceOf f c l) (R .straight .ok) (R .sum .ok) (R .least .ok) (R .apart)
+
     -- and back: the first leg out of reach answers
     pub out-of-reach-answers : (n k : ℕ) → FirstOut n k → told (LegRefused n k) ≡ strictTold f c
     out-of-reach-answers n k P =
@@ -218,10 +229,7 @@ module _ (f : Feet) (c : Configuration) where
         ∙ ap₂ legRefused its-number (P .number)))
       where
         its-number : reachRefusal f c (P .which) ≡ n
-        its-number =
-            let R = strict-within f c F C (P .let-in) (P .which) in
-            refused-out (c .body) (distanceOf f c (P .which)) n
-            (never-both-ends (c .body) (distanceOf f c (P .which)) (R .straight .ok) (R .sum .ok) (R .least .ok) (R .apart)) (P .out)
+        its-number = refused-out (c .body) (distanceOf f c (P .which)) n (one-end (P .let-in) (P .which)) (P .out)
 
         first : First (reachRefusal f c) (P .which)
         first =

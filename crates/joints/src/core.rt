@@ -225,7 +225,7 @@ fn out_of_reach(
     }
 }
 
-// The first leg that is out of reach, of six that have set out: from the last to the first, each choosing without a branch.
+// The first leg that is out of reach, of six that have set out: from the last to the first, each is one choice.
 fn first_out_of_reach(six: Headings, body: Body) -> RefusedLeg
     ensures { λ r. ⌜ r ≡ firstOutOfReach six body ⌝ }
 {
