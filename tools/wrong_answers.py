@@ -12,8 +12,8 @@ import rooms
 
 PAGE = "docs/WRONG_ANSWERS.md"
 
-# Besides the face's functions: the program that reads records, by its name.
-PRINTER = "hopper-walk"
+# Besides the face's functions: the programs that read text, by their names.
+PROGRAMS = {"hopper-walk": "the walk printer", "hopper-compare": "the comparison of two listings"}
 
 # Functions without parameters are numbers that the face shows; those of one kind are one entry.
 NUMBERS = {"default_step_time": "defaults", "default_step_height": "defaults", "default_step_distance": "defaults"}
@@ -125,7 +125,7 @@ Made by tools/wrong_answers.py from `crates/*/must-fail`, where each edit says w
 ## By entry
 
 Each entry with edits that change its answer, in its own text or in what it calls. `flags` are the fourteen flags of legs, `defaults` the default
-step time, height and distance, and `{PRINTER}` is the walk printer.
+step time, height and distance; {" and ".join(f"`{name}` is {what}" for name, what in PROGRAMS.items())}.
 
 {table("entry", "edits")}"""
     for name in entries:
@@ -138,7 +138,7 @@ step time, height and distance, and `{PRINTER}` is the walk printer.
 
 
 if __name__ == "__main__":
-    entries = list(dict.fromkeys(NUMBERS.get(entry.name, entry.name) for entry in rooms.face())) + [PRINTER]
+    entries = list(dict.fromkeys(NUMBERS.get(entry.name, entry.name) for entry in rooms.face())) + list(PROGRAMS)
     every = list(edits())
     wrong = list(faults(entries, every))
     for fault in wrong:

@@ -1,13 +1,13 @@
 // Lines from standard input, in chunks of any size that the system hands over.
 use crate::output;
-use crate::output::Out;
 use libc::STDIN_FILENO;
+use lines::carry;
+use lines::carry::Carry;
 use lines::fields;
 use lines::record::Asked;
+use listing::asks;
 use listing::block;
-use listing::carry;
-use listing::carry::Carry;
-ghost use Prim.Native.Nat.{_≤_, _-_};
+use outlet::Out;
 
 // Between two chunks: the line that has begun, and what waits to be written.
 struct State {
@@ -29,7 +29,7 @@ fn line(buf: &mut [u8], st: State, s: &[u8], from: usize, to: usize) -> State {
     if s.len() < to {
         return st;
     }
-    let o = answered(buf, st.at, st.open, carry::finished(st.carry, &s[from..to]));
+    let o = answered(buf, st.at, st.open, asks::finished(st.carry, &s[from..to]));
     State {
         carry: carry::empty(),
         at: o.at,
@@ -89,7 +89,7 @@ fn fed(buf: &mut [u8], st: State, s: &[u8]) -> State {
 // The line without a newline at the end of the input, if there is one.
 fn last(buf: &mut [u8], st: State) -> Out {
     if carry::has_begun(st.carry) {
-        answered(buf, st.at, st.open, carry::asked(st.carry))
+        answered(buf, st.at, st.open, asks::asked(st.carry))
     } else {
         Out {
             at: st.at,
@@ -119,16 +119,6 @@ fn stopped(st: State, got: isize) -> State {
     }
 }
 
-// The turns left; none once the output is closed.
-fn next_turn(turns: u64, open: bool) -> u64
-    ensures { λ r. ⌜ r ≤ turns - 1 ⌝ }
-{
-    if !open {
-        return 0;
-    }
-    if 0 < turns { turns - 1 } else { 0 }
-}
-
 // The header, then every line's block, until the input ends, reading fails or the output is closed.
 pub fn run() {
     let mut buf = io::large_buffer();
@@ -148,7 +138,7 @@ pub fn run() {
         } else {
             let n = io::count(got, &chunk);
             st = fed(&mut buf, st, &chunk[..n]);
-            turns = next_turn(turns, st.open);
+            turns = outlet::next_turn(turns, !st.open);
         }
     }
     ended(&mut buf, st);

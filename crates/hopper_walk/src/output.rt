@@ -1,43 +1,16 @@
 // Blocks gathered in a lent buffer, and written out when it is full.
-use libc::STDOUT_FILENO;
 use listing::block;
 use listing::block::Rest;
-ghost use Prim.Native.Nat.{_≤_};
-
-// How many bytes wait in the buffer, and whether the output still takes bytes.
-pub struct Out {
-    pub at: usize,
-    pub open: bool,
-}
-
-// Whether bytes were written. Where they were not, what failed is told on standard error.
-fn told(written: bool) -> bool {
-    if !written {
-        os::fail(b"hopper-walk: standard output");
-    }
-    written
-}
+use outlet::Out;
 
 // Writes the first n bytes out.
 fn front(buf: &[u8], n: usize) -> bool {
-    if n <= buf.len() {
-        let z: usize = 0;
-        told(io::write_all(STDOUT_FILENO, &buf[z..n]))
-    } else {
-        told(false)
-    }
+    outlet::front(buf, n, b"hopper-walk: standard output")
 }
 
 // Writes out what waits.
 pub fn flushed(buf: &[u8], o: Out) -> Out {
-    if o.open {
-        Out {
-            at: 0,
-            open: front(buf, o.at),
-        }
-    } else {
-        o
-    }
+    outlet::flushed(buf, o, b"hopper-walk: standard output")
 }
 
 // A block. Where the buffer is full it is written out, and the rest follows.

@@ -1,8 +1,9 @@
-mod Flags
+pub mod Flags
 mod Reading
 pub mod Decimal
 pub mod Stores
 mod Numerals
+mod Widths
 mod Places
 mod Values
 pub mod Exact
@@ -11,3 +12,5 @@ mod Rows
 pub mod Records
 pub mod Listings
 pub mod Versions
+pub mod Cutting
+pub mod Clear

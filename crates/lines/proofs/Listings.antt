@@ -74,6 +74,15 @@ line-back limit (Move m) d =
 line-back limit (Arrived n) d = rw (short-back limit 65 n d)
 line-back limit (Refused n) d = rw (short-back limit 82 n d)
 
+-- no line of a listing is longer than 38 bytes
+pub listed-width : (limit : ℕ) (line : Line) → Listable limit line → length (body line) ≤ 38
+unfolding body parted Listable
+listed-width limit (Header v) d = omega (arith, d .0)
+listed-width limit (Move m) d =
+    omega (arith, ap length (body-of-move m), long (m .count) (m .x ∷ m .y ∷ m .z ∷ []) refl, d .0 .1)
+listed-width limit (Arrived n) d = omega (arith, d .1)
+listed-width limit (Refused n) d = omega (arith, d .1)
+
 -- what is found is what is written
 pub record ReadFrom (limit : ℕ) (s : List ℕ) (line : Line) : Type 0 where
   pub bytes : s ≡ body line

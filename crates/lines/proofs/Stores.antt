@@ -1,10 +1,12 @@
 -- Runs stored one behind the other are one run; and what a run of stores leaves in front of the place after it.
 use mathlib.Core.Path.{_≡_, refl, ap, _∙_, sym}
+use mathlib.Core.Bool.{Bool, true}
 use mathlib.Core.List.{List, [], _∷_, _++_}
 use Prim.Native.Nat.{ℕ, suc, _+_, _≤_, _<_}
 use native.Mathlib.Nat.{add-zero, suc-add, add-suc}
 use native.Mathlib.Omega.{arith}
 use lib.ListN.{length, set, take, drop, length-append}
+use Rattle.numbers.specs.Told.{choose}
 use Rattle.lines.specs.Stored.{Stored}
 use lib.Seq.{sets, sets-eq, set-comm, take-at, length-take-le, length-sets}
 
@@ -56,6 +58,10 @@ stored-more {l} {l′} {l″} {at} {r} {r′} {a} {b} p q =
 
 pub stored-as : {l l′ : List ℕ} {at r : ℕ} {a b : List ℕ} → a ≡ b → Stored l at a r l′ → Stored l at b r l′
 stored-as e p = rw e at p
+
+-- a text that is stored where a test holds
+pub stored-where : {l l′ : List ℕ} {at r : ℕ} {a : List ℕ} {t : Bool} → t ≡ true → Stored l at a r l′ → Stored l at (choose t a []) r l′
+stored-where {a = a} e p = stored-as (ap (λ (b : Bool). choose b a []) (sym e)) p
 
 pub stored-nothing : {l : List ℕ} {at : ℕ} → Stored l at [] at l
 stored-nothing {l} {at} = record { place = omega arith; bytes = refl }

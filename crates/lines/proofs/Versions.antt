@@ -37,25 +37,27 @@ only-a-header s line e = by-kind line (line-exact 0 s line e .listable)
     by-kind (Refused n) d = none n d
 
 -- ---- a line whose count has too many digits is not found
-same-line : (a b : Line) → Known a ≡ Known b → a ≡ b
+pub same-line : (a b : Line) → Known a ≡ Known b → a ≡ b
 same-line a b e = cc
+
+-- a line of a version is a line of any that allows more digits
+pub wider : (limit : ℕ) (l : Line) → Listable limit l → Listable 9 l
+unfolding Listable
+wider limit (Header v) d = d
+wider limit (Move m) d = ((d .0 .1, d .0 .1), d .1)
+wider limit (Arrived n) d = (d .1, d .1)
+wider limit (Refused n) d = (d .1, d .1)
 
 pub too-many-digits : (limit : ℕ) (line : Line) → Listable 9 line → (Listable limit line → ⊥) → lineOf limit (body line) ≡ NoLine
 unfolding Listable
 too-many-digits limit line good many = by-found (lineOf limit (body line)) refl
   where
-    wider : (l : Line) → Listable limit l → Listable 9 l
-    wider (Header v) d = d
-    wider (Move m) d = ((d .0 .1, d .0 .1), d .1)
-    wider (Arrived n) d = (d .1, d .1)
-    wider (Refused n) d = (d .1, d .1)
-
     by-found : (f : Found) → lineOf limit (body line) ≡ f → lineOf limit (body line) ≡ NoLine
     by-found NoLine e = e
     by-found (Known l) e =
         let was = line-exact limit (body line) l e in
         let is : line ≡ l =
-        same-line line l (sym (line-back 9 line good) ∙ ap (lineOf 9) (was .bytes) ∙ line-back 9 l (wider l (was .listable))) in
+        same-line line l (sym (line-back 9 line good) ∙ ap (lineOf 9) (was .bytes) ∙ line-back 9 l (wider limit l (was .listable))) in
         absurd (many (subst (Listable limit) (sym is) (was .listable)))
 
 -- request K9: "a six-digit count under header 1 is no listing line"

@@ -40,7 +40,7 @@ pub(crate) fn put_move(buf: &mut [u8], at: usize, m: Moved) -> usize
     ensures { λ r. ⌜ Stored (now (buf .entry)) at (written (Line.Move m)) r (now (buf .exit)) ⌝ }
 {
     let a = put::letter(buf, at, b'M');
-    let b = put::count(buf, a, m.count);
+    let b = put::count(buf, a, m.count as u64);
     let x = put::pattern(buf, b, m.x);
     let y = put::pattern(buf, x, m.y);
     let z = put::pattern(buf, y, m.z);
@@ -53,7 +53,7 @@ pub(crate) fn put_short(buf: &mut [u8], at: usize, letter: u8, n: u32) -> usize
     ensures { λ r. ⌜ Stored (now (buf .entry)) at (ended (lettered letter n)) r (now (buf .exit)) ⌝ }
 {
     let a = put::letter(buf, at, letter);
-    let b = put::count(buf, a, n);
+    let b = put::count(buf, a, n as u64);
     put::newline(buf, b)
 }
 
@@ -63,7 +63,7 @@ pub(crate) fn put_header(buf: &mut [u8], at: usize, version: u32) -> usize
     ensures { λ r. ⌜ Stored (now (buf .entry)) at (written (Line.Header version)) r (now (buf .exit)) ⌝ }
 {
     let a = put::name(buf, at);
-    let b = put::count(buf, a, version);
+    let b = put::count(buf, a, version as u64);
     put::newline(buf, b)
 }
 

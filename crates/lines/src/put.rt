@@ -1,5 +1,6 @@
 // Text stored into a lent buffer from a place on: each function gives the place after it. Each asks that what it
-// stores lies within the buffer; `listed::put_line` looks at the room once for a whole line.
+// stores lies within the buffer; `listed::put_line` and `compared::put_told` look at
+// the room once for a whole line.
 ghost use mathlib.Core.Path.{_≡_};
 ghost use mathlib.Core.List.{_∷_, [], _++_};
 ghost use Prim.Native.Nat.{_+_, _%_, _≤_};
@@ -10,7 +11,7 @@ ghost use Rattle.lines.specs.Stored.{Stored};
 ghost use Rattle.lines.specs.Lines.{walkWord};
 
 // The byte of a number's lowest hex digit.
-fn digit(n: u32) -> u8
+fn digit(n: u64) -> u8
     ensures { λ r. ⌜ r ≡ digit (n % 16) ⌝ }
 {
     match n % 16 {
@@ -43,6 +44,16 @@ pub(crate) fn letter(buf: &mut [u8], at: usize, b: u8) -> usize
     at + 2
 }
 
+// A tab and a letter.
+pub(crate) fn mark(buf: &mut [u8], at: usize, b: u8) -> usize
+    requires { ⌜ at + 2 ≤ length (now buf) ⌝ }
+    ensures { λ r. ⌜ Stored (now (buf .entry)) at (tab ∷ b ∷ []) r (now (buf .exit)) ⌝ }
+{
+    buf[at] = 9;
+    buf[at + 1] = b;
+    at + 2
+}
+
 // The newline that ends a line.
 pub(crate) fn newline(buf: &mut [u8], at: usize) -> usize
     requires { ⌜ at + 1 ≤ length (now buf) ⌝ }
@@ -57,7 +68,8 @@ pub(crate) fn pattern(buf: &mut [u8], at: usize, n: u32) -> usize
     requires { ⌜ at + 9 ≤ length (now buf) ⌝ }
     ensures { λ r. ⌜ Stored (now (buf .entry)) at (tab ∷ hex n) r (now (buf .exit)) ⌝ }
 {
-    let n6 = n / 16;
+    let n7 = n as u64;
+    let n6 = n7 / 16;
     let n5 = n6 / 16;
     let n4 = n5 / 16;
     let n3 = n4 / 16;
@@ -72,12 +84,12 @@ pub(crate) fn pattern(buf: &mut [u8], at: usize, n: u32) -> usize
     buf[at + 5] = digit(n4);
     buf[at + 6] = digit(n5);
     buf[at + 7] = digit(n6);
-    buf[at + 8] = digit(n);
+    buf[at + 8] = digit(n7);
     at + 9
 }
 
 // How many decimal digits a number has.
-fn width(n: u32) -> usize
+fn width(n: u64) -> usize
     ensures { λ r. ⌜ r ≡ length (decimal n) ⌝ }
 {
     let mut m = n;
@@ -90,7 +102,7 @@ fn width(n: u32) -> usize
 }
 
 // A number in decimal digits, stored from the last to the first.
-pub(crate) fn count(buf: &mut [u8], at: usize, n: u32) -> usize
+pub(crate) fn count(buf: &mut [u8], at: usize, n: u64) -> usize
     requires { ⌜ at + length (decimal n) ≤ length (now buf) ⌝ }
     ensures { λ r. ⌜ Stored (now (buf .entry)) at (decimal n) r (now (buf .exit)) ⌝ }
 {

@@ -1,3 +1,3 @@
-pub mod Cutting
+pub mod Asking
 pub mod Blocks
 pub mod ReadBack

@@ -1,3 +1,3 @@
-pub mod Carry
+pub mod Asks
 pub mod Listing
 pub mod Block

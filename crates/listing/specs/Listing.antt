@@ -15,7 +15,7 @@ use Rattle.lines.specs.declared.listed.Line.the-variants.{Header, Move, Arrived
 use Rattle.lines.specs.declared.record.Place.{Place}
 use Rattle.lines.specs.declared.record.Asked.{Asked}
 use Rattle.lines.specs.declared.record.Asked.the-variants.{Record, NoRecord}
-use Rattle.listing.specs.Carry.{linesFrom}
+use Rattle.lines.specs.Carry.{inputLines}
 
 -- a record's place as a point
 abbrev pub pointAt : Place → Point
@@ -44,14 +44,6 @@ WalkPrints m s t text =
 abbrev pub Prints : Asked → List ℕ → Type 0
 Prints (Record w) text = WalkPrints (w .«max_move») (pointAt (w .start)) (pointAt (w .target)) text
 Prints NoRecord text = text ≡ written (Refused 7)
-
--- the lines of an input: the finished ones, and what follows the last newline "if there are some"
-abbrev pub withLast : List (List ℕ) → List ℕ → List (List ℕ)
-withLast ls [] = ls
-withLast ls (b ∷ s) = ls ++ ((b ∷ s) ∷ [])
-
-abbrev pub inputLines : List ℕ → List (List ℕ)
-inputLines input = withLast (linesFrom [] input .finished) (linesFrom [] input .begun)
 
 -- what each line prints, joined
 abbrev pub AllPrint : List Asked → List ℕ → Type 0

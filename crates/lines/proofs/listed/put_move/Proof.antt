@@ -14,14 +14,18 @@ use Rattle.lines.proofs.listed.put_move.Tie as tie
 letter-requires : tie.Need-letter-requires
 letter-requires c κs = search needs
 
+cast-count : tie.Need-cast-count
+cast-count c = search needs
+
 count-requires : tie.Need-count-requires
-count-requires c κs = omega (arith, length-at-most 9 (c .before .before .before .before .before .before .args .m .count) (omega arith))
+count-requires c κs =
+    omega (arith, length-at-most 9 (c .before .before .before .before .before .before .before .args .m .count) (omega arith))
 
 pattern-requires : tie.Need-pattern-requires
 pattern-requires c κs =
     omega (
       arith,
-      length-at-most 9 (c .before .before .before .before .before .before .before .before .before .before .args .m .count)
+      length-at-most 9 (c .before .before .before .before .before .before .before .before .before .before .before .args .m .count)
           (omega arith),
     )
 
@@ -30,11 +34,12 @@ pattern-requires-2 c κs =
     omega (
       arith,
       length-at-most 9
-          (c .before .before .before .before .before .before .before .before .before .before .before .before .before .before .args .m
-          .count)
+          (c .before .before .before .before .before .before .before .before .before .before .before .before .before .before .before
+          .args .m .count)
           (omega arith),
       length-hex
-          (c .before .before .before .before .before .before .before .before .before .before .before .before .before .before .args .m .x),
+          (c .before .before .before .before .before .before .before .before .before .before .before .before .before .before .before
+          .args .m .x),
     )
 
 pattern-requires-3 : tie.Need-pattern-requires-3
@@ -43,11 +48,11 @@ pattern-requires-3 c κs =
       arith,
       length-at-most 9
           (c .before .before .before .before .before .before .before .before .before .before .before .before .before .before .before .before
-          .before .before .args .m .count) (omega arith),
+          .before .before .before .args .m .count) (omega arith),
       length-hex (c .before .before .before .before .before .before .before .before .before .before .before .before .before .before .before
-          .before .before .before .args .m .x),
+          .before .before .before .before .args .m .x),
       length-hex (c .before .before .before .before .before .before .before .before .before .before .before .before .before .before .before
-          .before .before .before .args .m .y),
+          .before .before .before .before .args .m .y),
     )
 
 newline-requires : tie.Need-newline-requires
@@ -56,13 +61,13 @@ newline-requires c κs =
       arith,
       length-at-most 9
           (c .before .before .before .before .before .before .before .before .before .before .before .before .before .before .before .before
-          .before .before .before .before .before .before .args .m .count) (omega arith),
+          .before .before .before .before .before .before .before .args .m .count) (omega arith),
       length-hex (c .before .before .before .before .before .before .before .before .before .before .before .before .before .before .before
-          .before .before .before .before .before .before .before .args .m .x),
+          .before .before .before .before .before .before .before .before .args .m .x),
       length-hex (c .before .before .before .before .before .before .before .before .before .before .before .before .before .before .before
-          .before .before .before .before .before .before .before .args .m .y),
+          .before .before .before .before .before .before .before .before .args .m .y),
       length-hex (c .before .before .before .before .before .before .before .before .before .before .before .before .before .before .before
-          .before .before .before .before .before .before .before .args .m .z),
+          .before .before .before .before .before .before .before .before .args .m .z),
     )
 
 same-length : tie.Need-same-length
@@ -74,7 +79,7 @@ returns c = stored-as (simp append-assoc)
     (stored-more (stored-more
     (stored-more (stored-more
     (stored-more (c .before .before .before .before .before .before .before .before .before .before .before .before .before .before .before
-    .before .before .before .before .before .before .before .letter .ensures)
+    .before .before .before .before .before .before .before .before .letter .ensures)
     (c .before .before .before .before .before .before .before .before .before .before .before .before .before .before .before .before
     .before .before .count .ensures))
     (c .before .before .before .before .before .before .before .before .before .before .before .before .before .before .pattern .ensures))
@@ -86,6 +91,7 @@ put-move-spec =
     tie.close
     (tie.spec
     letter-requires
+    cast-count
     count-requires
     pattern-requires
     pattern-requires-2

@@ -9,13 +9,13 @@ use Rattle.lines.proofs.put.width.Statement.{statement}
 use Rattle.lines.proofs.put.width.Tie as tie
 
 abbrev Inv-loop : tie.InvT-loop
-Inv-loop n m₀ w₀ m w = (w + length (decimal m) ≡ 1 + length (decimal n)) × (length (decimal n) ≤ 10)
+Inv-loop n m₀ w₀ m w = (w + length (decimal m) ≡ 1 + length (decimal n)) × (length (decimal n) ≤ 20)
 
 abbrev μ-loop : tie.MeasureT-loop
 μ-loop n m₀ w₀ m w = m
 
 loop-holds : tie.Need-loop-holds Inv-loop μ-loop
-loop-holds c = (omega arith, length-at-most 9 (c .args .n) (omega arith))
+loop-holds c = (omega arith, length-at-most 19 (c .args .n) (omega arith))
 
 add-w : tie.Need-add-w Inv-loop μ-loop
 add-w c = omega arith
