@@ -74,7 +74,22 @@ fn whole(buf: &mut [u8], a: &[u8], b: &[u8], g: Going) -> Going {
     }
 }
 
-// The same of the bytes that the chunks hold.
+// What is told so far is written out, so that it shows while a file is still coming.
+fn shown(buf: &[u8], g: Going) -> Going {
+    let st = g.st;
+    let bench = g.bench;
+    let office = g.office;
+    let out = output::flushed(buf, g.out);
+    Going {
+        st,
+        bench,
+        office,
+        out,
+        done: g.done | !out.open,
+    }
+}
+
+// The same of the bytes that the chunks hold, and shown.
 fn in_chunks(buf: &mut [u8], a: &[u8], b: &[u8], g: Going) -> Going {
     let m = g.bench.to;
     let n = g.office.to;
@@ -85,7 +100,8 @@ fn in_chunks(buf: &mut [u8], a: &[u8], b: &[u8], g: Going) -> Going {
         return g;
     }
     let z: usize = 0;
-    whole(buf, &a[z..m], &b[z..n], g)
+    let reached = whole(buf, &a[z..m], &b[z..n], g);
+    shown(buf, reached)
 }
 
 // Both files, to the end of the longer.
@@ -106,7 +122,6 @@ fn compared(bench: i32, office: i32) {
         g = in_chunks(&mut buf, &a, &b, g);
         turns = outlet::next_turn(turns, g.done);
     }
-    output::flushed(&buf, g.out);
 }
 
 // A file that can't be opened is a bad line 0. Both are opened before anything is printed.

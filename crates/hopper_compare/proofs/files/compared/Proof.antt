@@ -69,12 +69,6 @@ loop-less c = omega arith
 loop-again : tie.Need-loop-again Inv-loop μ-loop
 loop-again c = search needs
 
-slice-aggregate-flushed : tie.Need-slice-aggregate-flushed Inv-loop μ-loop
-slice-aggregate-flushed c = search needs
-
-flushed-requires : tie.Need-flushed-requires Inv-loop μ-loop
-flushed-requires c κs = search needs
-
 returns : tie.Need-returns Inv-loop μ-loop
 returns c = search needs
 
@@ -103,6 +97,4 @@ compared-spec =
     next-turn-requires
     loop-less
     loop-again
-    slice-aggregate-flushed
-    flushed-requires
     returns)
