@@ -171,6 +171,11 @@ by-kinds k (Refused a) (Move b) d e g h = refl
 by-kinds k (Refused a) (Arrived b) d e g h = refl
 by-kinds k (Refused a) (Refused b) d e g h = same-number Refused k a b d e (λ t. cc)
 
+-- two headers tell nothing, whatever their versions: "header aside"
+pub headers-aside : (k v w : ℕ) → toldLines k (Header v) (Header w) ≡ told.Same
+unfolding toldLines
+headers-aside k v w = refl
+
 stands-later : (version : ℕ) (l : Line) → eqb version 0 ≡ false → mayStand version l ≡ true → goodLater l ≡ true
 unfolding mayStand
 stands-later version l later h = rw later at h

@@ -1,9 +1,12 @@
--- Two lines of different letters differ: what the last arm of each match knows is that the other line's letter is another.
+-- Two lines of different letters differ: what the last arm of each match knows is that the other line's letter is another. And a line of
+-- another letter than the header's says no version.
 use mathlib.Core.Path.{_≡_, refl}
+use mathlib.Core.Bool.{_||_}
 use mathlib.Core.List.{[], _∷_}
 use mathlib.Core.Logic.{inl, inr}
 use Prim.Native.Nat.{ℕ}
 use native.Mathlib.Omega.{arith}
+use lib.Dec.{eqb}
 use denote.Enum.Declared.{tagOf}
 use types.Run.{OneOf}
 use Rattle.lines.specs.declared.listed.Moved.{Moved}
@@ -11,6 +14,7 @@ use Rattle.lines.specs.declared.listed.Line.{Line}
 use Rattle.lines.specs.declared.listed.Line.the-variants.{Header, Move, Arrived, Refused}
 use Rattle.lines.specs.declared.compared.Told.the-variants.{Differs}
 use Rattle.lines.proofs.listed.Line.{the-type}
+use Rattle.compare.specs.Seen.{goodFirst, versionOf}
 use Rattle.compare.specs.Step.{toldLines}
 
 -- the other line's letter is one of these three
@@ -49,3 +53,11 @@ refusal-alone k n (Header m) h = refl
 refusal-alone k n (Move m) h = refl
 refusal-alone k n (Arrived m) h = refl
 refusal-alone k n (Refused m) h = none 3 0 1 2 (λ e. omega arith) (λ e. omega arith) (λ e. omega arith) h
+
+-- ---- line 1, by the version that it says
+pub first-by-version : (line : Line) → goodFirst line ≡ (eqb (versionOf line) 1 || eqb (versionOf line) 2)
+unfolding goodFirst versionOf
+first-by-version (Header v) = refl
+first-by-version (Move m) = refl
+first-by-version (Arrived n) = refl
+first-by-version (Refused n) = refl

@@ -1,6 +1,6 @@
 -- A stretch of positions is so many steps: none where it stops, one for each position told, and two stretches behind each other are one.
 use mathlib.Core.Path.{_≡_, refl, ap, _∙_, sym, subst}
-use mathlib.Core.Bool.{Bool, true, false, not, false≢true}
+use mathlib.Core.Bool.{Bool, true, false, false≢true}
 use mathlib.Core.List.{List, [], _∷_, _++_, append-assoc}
 use Prim.Native.Nat.{ℕ, suc, _+_, _-_, _≤_, _<_}
 use native.Mathlib.Nat.{add-assoc, add-zero, min-eq-left}
@@ -24,14 +24,6 @@ use Rattle.compare.specs.declared.step.Step.{Step}
 use Rattle.compare.specs.declared.stretch.Reached.{Reached}
 use Rattle.compare.proofs.Chunks.{line-ends}
 use Rattle.compare.proofs.Kept.{kept-whole}
-
-pub not-false : (b : Bool) → not b ≡ false → b ≡ true
-not-false true e = refl
-not-false false e = absurd (false≢true (sym e))
-
-pub not-true : (b : Bool) → not b ≡ true → b ≡ false
-not-true true e = absurd (false≢true e)
-not-true false e = refl
 
 -- how far it is at most from where it stops
 abbrev pub ahead : List ℕ → Reached → ℕ

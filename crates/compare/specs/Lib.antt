@@ -1,6 +1,6 @@
 pub mod Seen
-pub mod Step
 pub mod Rule
+pub mod Totals
+pub mod Step
 pub mod Parts
 pub mod Stretch
-pub mod Totals

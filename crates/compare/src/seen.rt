@@ -15,16 +15,24 @@ pub enum Seen {
     Nothing,
 }
 
+// The version that a line says: that of a header, 0 of any other.
+fn version_of(line: Line) -> u32
+    ensures { λ r. ⌜ r ≡ versionOf line ⌝ }
+{
+    match line {
+        Line::Header(version) => version,
+        Line::Move(_) => 0,
+        Line::Arrived(_) => 0,
+        Line::Refused(_) => 0,
+    }
+}
+
 // Whether a line may be line 1: the header, of version 1 or 2.
 fn may_be_first(line: Line) -> bool
     ensures { λ r. ⌜ r ≡ goodFirst line ⌝ }
 {
-    match line {
-        Line::Header(version) => (version == 1) | (version == 2),
-        Line::Move(_) => false,
-        Line::Arrived(_) => false,
-        Line::Refused(_) => false,
-    }
+    let version = version_of(line);
+    (version == 1) | (version == 2)
 }
 
 // Whether a line may stand behind line 1: a step counted from 1, an arrival, a refusal 1, 2 or 7.
@@ -106,18 +114,6 @@ pub fn read_last(version: u32, c: Carry, failed: bool) -> Seen
         Seen::Bad
     } else {
         Seen::Nothing
-    }
-}
-
-// The version that a line says: that of a header, 0 of any other.
-fn version_of(line: Line) -> u32
-    ensures { λ r. ⌜ r ≡ versionOf line ⌝ }
-{
-    match line {
-        Line::Header(version) => version,
-        Line::Move(_) => 0,
-        Line::Arrived(_) => 0,
-        Line::Refused(_) => 0,
     }
 }
 

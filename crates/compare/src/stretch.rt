@@ -5,8 +5,6 @@ use crate::step::Step;
 use lines::compared;
 use lines::fields;
 ghost use mathlib.Core.Path.{_≡_};
-ghost use Prim.Native.Nat.{_+_};
-ghost use lib.Dec.{leb};
 ghost use mathlib.Core.List.{[]};
 ghost use Rattle.numbers.specs.Told.{choose};
 ghost use Rattle.lines.specs.Stored.{Stored};
@@ -31,19 +29,6 @@ fn stopped(r: Reached) -> Reached
     let mut q = r;
     q.stopped = true;
     q
-}
-
-// Whether the longest line has room.
-pub fn has_room(n: usize, at: usize) -> bool
-    ensures { λ r. ⌜ r ≡ leb (at + 83) n ⌝ }
-{
-    if n < 83 {
-        return false;
-    }
-    if n - 83 < at {
-        return false;
-    }
-    true
 }
 
 // A position is told, and both chunks go on behind their lines.
@@ -80,7 +65,7 @@ fn onward(buf: &mut [u8], bench: &[u8], office: &[u8], r: Reached) -> Reached
     if office.len() <= f {
         return stopped(r);
     }
-    if !has_room(buf.len(), r.at) {
+    if !compared::has_room(buf.len(), r.at) {
         return stopped(r);
     }
     told_at(

@@ -1,5 +1,4 @@
 // Lines gathered in a lent buffer, and written out when it is full.
-use compare::stretch;
 use lines::compared;
 use lines::compared::Told;
 use outlet::Out;
@@ -11,7 +10,7 @@ pub fn flushed(buf: &[u8], o: Out) -> Out {
 
 // What a position tells, after what waits.
 pub fn printed(buf: &mut [u8], o: Out, told: Told) -> Out {
-    if stretch::has_room(buf.len(), o.at) {
+    if compared::has_room(buf.len(), o.at) {
         Out {
             at: compared::put_told(buf, o.at, told),
             open: o.open,

@@ -1,8 +1,10 @@
 // The lines that a comparison of two listings prints, written into a lent buffer (request K1).
 use crate::listed::Moved;
 use crate::put;
+ghost use mathlib.Core.Path.{_≡_};
 ghost use mathlib.Core.List.{[]};
 ghost use Prim.Native.Nat.{_+_, _≤_};
+ghost use lib.Dec.{leb};
 ghost use lib.ListN.{length};
 ghost use Rattle.numbers.specs.Told.{choose};
 ghost use Rattle.lines.specs.Lines.{lettered, ended};
@@ -88,16 +90,25 @@ fn put_refusal(buf: &mut [u8], at: usize, position: u64) -> usize
     put_short(buf, a, b'7', position)
 }
 
+// Whether the longest line, of 83 bytes, has room from `at` on in a buffer of n bytes.
+pub fn has_room(n: usize, at: usize) -> bool
+    ensures { λ r. ⌜ r ≡ leb (at + 83) n ⌝ }
+{
+    if n < 83 {
+        return false;
+    }
+    if n - 83 < at {
+        return false;
+    }
+    true
+}
+
 // What a position tells, stored from `at` on; gives the place after it. No line is longer than 83 bytes: where the buffer has not that much
 // room, nothing is stored and the place stays.
 pub fn put_told(buf: &mut [u8], at: usize, told: Told) -> usize
     ensures { λ r. ⌜ Stored (now (buf .entry)) at (choose (hasToldRoom (now (buf .entry)) at) (toldText told) []) r (now (buf .exit)) ⌝ }
 {
-    let n = buf.len();
-    if n < 83 {
-        return at;
-    }
-    if n - 83 < at {
+    if !has_room(buf.len(), at) {
         return at;
     }
     match told {

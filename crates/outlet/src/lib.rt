@@ -1,6 +1,8 @@
 // What the printing programs share: bytes that wait in a lent buffer and are written out, and the turns of a loop that ends by what is
 // read.
 use libc::STDOUT_FILENO;
+ghost use mathlib.Core.Path.{_≡_};
+ghost use mathlib.Core.Bool.{true, false};
 ghost use Prim.Native.Nat.{_≤_, _-_};
 
 // How many bytes wait in the buffer, and whether the output still takes bytes.
@@ -10,7 +12,9 @@ pub struct Out {
 }
 
 // Nothing waits.
-pub fn empty() -> Out {
+pub fn empty() -> Out
+    ensures { λ r. ⌜ r ≡ record { at = 0; «open» = true } ⌝ }
+{
     Out { at: 0, open: true }
 }
 
@@ -32,8 +36,10 @@ pub fn front(buf: &[u8], n: usize, what: &[u8]) -> bool {
     }
 }
 
-// Writes out what waits.
-pub fn flushed(buf: &[u8], o: Out, what: &[u8]) -> Out {
+// Writes out what waits, so that nothing does; a closed output stays as it is.
+pub fn flushed(buf: &[u8], o: Out, what: &[u8]) -> Out
+    ensures { λ r. ⌜ (o .«open» ≡ true → r .at ≡ 0) × (o .«open» ≡ false → r ≡ o) ⌝ }
+{
     if o.open {
         Out {
             at: 0,

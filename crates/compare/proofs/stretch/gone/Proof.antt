@@ -3,7 +3,8 @@ use mathlib.Core.Path.{_≡_, refl}
 use lib.ListN.{length}
 use borrow.Author.Needs.{needs}
 use Rattle.compare.specs.Stretch.{Goes}
-use Rattle.compare.proofs.Stretches.{ahead, comes-nearer, not-true, goes-nowhere, goes-more}
+use Rattle.lines.proofs.Flags.{not-true}
+use Rattle.compare.proofs.Stretches.{ahead, comes-nearer, goes-nowhere, goes-more}
 use Rattle.compare.proofs.stretch.gone.Statement.{statement}
 use Rattle.compare.proofs.stretch.gone.Tie as tie
 

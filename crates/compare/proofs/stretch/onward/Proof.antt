@@ -2,7 +2,8 @@
 use mathlib.Core.Path.{_≡_, sym, _∙_}
 use mathlib.Core.Bool.{true}
 use Rattle.lines.specs.Compared.{hasToldRoom}
-use Rattle.compare.proofs.Stretches.{not-false, stops, told-onward}
+use Rattle.lines.proofs.Flags.{not-false}
+use Rattle.compare.proofs.Stretches.{stops, told-onward}
 use borrow.Author.Needs.{needs}
 use Rattle.compare.proofs.stretch.onward.Statement.{statement}
 use Rattle.compare.proofs.stretch.onward.Tie as tie

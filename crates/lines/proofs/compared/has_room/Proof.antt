@@ -1,10 +1,10 @@
--- `compare::stretch::has_room` meets its contract.
+-- `lines::compared::has_room` meets its contract.
 use mathlib.Core.Path.{sym}
 use Prim.Native.Nat.{_+_}
 use native.Mathlib.Omega.{arith}
 use borrow.Author.Tests.{le-leb, lt-leb}
-use Rattle.compare.proofs.stretch.has_room.Statement.{statement}
-use Rattle.compare.proofs.stretch.has_room.Tie as tie
+use Rattle.lines.proofs.compared.has_room.Statement.{statement}
+use Rattle.lines.proofs.compared.has_room.Tie as tie
 
 returns : tie.Need-returns
 returns c = sym (lt-leb (c .before .args .at + 83) (c .before .args .n) (omega arith))
