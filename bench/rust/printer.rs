@@ -1,6 +1,10 @@
-// The walk printer in plain Rust, for `bench/run printer`: the same reading, checks, steps and lines, each walk gone once,
-// lines by BufRead, output in blocks of 64 KiB.
-use std::io::{self, BufRead, Write};
+// The walk printer in plain Rust, for `bench/run printer`: the same reading, checks, steps and lines, each walk gone once. A line is
+// read where it stands in a chunk of at most 64 KiB; of a line that a read cuts, at most 128 bytes are kept. Output in blocks of
+// 64 KiB, and what a chunk finishes is written before the next read.
+use std::io::{self, BufRead, Read, StdoutLock, Write};
+
+const BLOCK: usize = 65536;
+const KEPT: usize = 128;
 
 #[derive(Clone, Copy, PartialEq)]
 struct Point {
@@ -9,12 +13,25 @@ struct Point {
     z: f32,
 }
 
-fn digit(b: u8) -> Option<u32> {
-    match b {
-        b'0'..=b'9' => Some((b - b'0') as u32),
-        b'a'..=b'f' => Some((b - b'a') as u32 + 10),
-        _ => None,
+// The value of a lower-case hex digit, 255 of any other byte: by a table, for a branch on random digits is guessed wrong too often.
+static DIGIT: [u8; 256] = {
+    let mut table = [255; 256];
+    let mut k = 0;
+    while k < 16 {
+        table[b"0123456789abcdef"[k] as usize] = k as u8;
+        k += 1;
     }
+    table
+};
+
+fn pattern(s: &[u8]) -> Option<u32> {
+    let (mut bits, mut all) = (0, 0);
+    for &b in s {
+        let d = DIGIT[b as usize];
+        bits = bits << 4 | d as u32;
+        all |= d;
+    }
+    if all < 16 { Some(bits) } else { None }
 }
 
 fn record(s: &[u8]) -> Option<[f32; 7]> {
@@ -22,15 +39,11 @@ fn record(s: &[u8]) -> Option<[f32; 7]> {
         return None;
     }
     let mut v = [0.0; 7];
-    for (k, f) in s[1..].chunks_exact(9).enumerate() {
+    for (x, f) in v.iter_mut().zip(s[1..].chunks_exact(9)) {
         if f[0] != b'\t' {
             return None;
         }
-        let mut bits = 0;
-        for &b in &f[1..] {
-            bits = bits * 16 + digit(b)?;
-        }
-        v[k] = f32::from_bits(bits);
+        *x = f32::from_bits(pattern(&f[1..])?);
     }
     Some(v)
 }
@@ -85,51 +98,124 @@ fn put_short(out: &mut Vec<u8>, letter: u8, n: u32) {
     out.push(b'\n');
 }
 
-fn main() -> io::Result<()> {
-    let mut input = io::BufReader::with_capacity(65536, io::stdin().lock());
-    let mut output = io::stdout().lock();
-    let mut out: Vec<u8> = Vec::with_capacity(65536);
-    out.extend_from_slice(b"hopper-walk\t2\n");
-    let mut line = Vec::new();
-    loop {
-        line.clear();
-        if input.read_until(b'\n', &mut line)? == 0 {
-            break;
+// A line that a read has cut. Past KEPT bytes it is no record, whatever its bytes are, and none of them is kept.
+struct Begun {
+    held: Vec<u8>,
+    past: bool,
+}
+
+impl Begun {
+    fn is_none(&self) -> bool {
+        self.held.is_empty() && !self.past
+    }
+
+    fn more(&mut self, piece: &[u8]) {
+        self.past |= self.held.len() + piece.len() > KEPT;
+        if self.past {
+            self.held.clear();
+        } else {
+            self.held.extend_from_slice(piece);
         }
-        if line.last() == Some(&b'\n') {
-            line.pop();
+    }
+
+    fn end(&mut self) {
+        self.held.clear();
+        self.past = false;
+    }
+}
+
+// Takes the first line off, if its newline has come. The search is that of BufRead, many bytes at a time.
+fn finished<'a>(rest: &mut &'a [u8]) -> Option<&'a [u8]> {
+    let all = *rest;
+    let n = rest.skip_until(b'\n').ok()?;
+    match all[..n].split_last() {
+        Some((b'\n', line)) => Some(line),
+        _ => {
+            *rest = all;
+            None
         }
-        let Some(v) = record(&line) else {
-            put_short(&mut out, b'R', 7);
-            continue;
-        };
-        let n = refusal(&v);
-        if n != 0 {
-            put_short(&mut out, b'R', n);
-            continue;
-        }
+    }
+}
+
+struct Printer {
+    out: Vec<u8>,
+    output: StdoutLock<'static>,
+}
+
+impl Printer {
+    fn write_out(&mut self) -> io::Result<()> {
+        self.output.write_all(&self.out)?;
+        self.out.clear();
+        Ok(())
+    }
+
+    // Room for one line more.
+    fn room(&mut self) -> io::Result<()> {
+        if self.out.len() + 40 > BLOCK { self.write_out() } else { Ok(()) }
+    }
+
+    fn walk(&mut self, v: &[f32; 7]) -> io::Result<u32> {
         let target = Point { x: v[4], y: v[5], z: v[6] };
         let mut last = Point { x: v[1], y: v[2], z: v[3] };
         let mut count = 0;
         while let Some(p) = step(last, target, v[0]) {
             last = p;
             count += 1;
-            if out.len() + 40 > 65536 {
-                output.write_all(&out)?;
-                out.clear();
-            }
-            out.extend_from_slice(b"M\t");
-            put_count(&mut out, count);
-            put_bits(&mut out, p.x);
-            put_bits(&mut out, p.y);
-            put_bits(&mut out, p.z);
-            out.push(b'\n');
+            self.room()?;
+            self.out.extend_from_slice(b"M\t");
+            put_count(&mut self.out, count);
+            put_bits(&mut self.out, p.x);
+            put_bits(&mut self.out, p.y);
+            put_bits(&mut self.out, p.z);
+            self.out.push(b'\n');
         }
-        put_short(&mut out, b'A', count);
-        if out.len() + 40 > 65536 {
-            output.write_all(&out)?;
-            out.clear();
-        }
+        Ok(count)
     }
-    output.write_all(&out)
+
+    fn answer(&mut self, line: &[u8]) -> io::Result<()> {
+        let (letter, n) = match record(line) {
+            None => (b'R', 7),
+            Some(v) => match refusal(&v) {
+                0 => (b'A', self.walk(&v)?),
+                n => (b'R', n),
+            },
+        };
+        self.room()?;
+        put_short(&mut self.out, letter, n);
+        Ok(())
+    }
+}
+
+fn main() -> io::Result<()> {
+    let mut input = io::stdin().lock();
+    let mut chunk = vec![0; BLOCK];
+    let mut begun = Begun { held: Vec::with_capacity(KEPT), past: false };
+    let mut printer = Printer { out: Vec::with_capacity(BLOCK), output: io::stdout().lock() };
+    printer.out.extend_from_slice(b"hopper-walk\t2\n");
+    loop {
+        let mut rest = match input.read(&mut chunk) {
+            Ok(0) => break,
+            Ok(n) => &chunk[..n],
+            Err(e) if e.kind() == io::ErrorKind::Interrupted => continue,
+            Err(e) => {
+                eprintln!("hopper-walk: standard input: {e}");
+                break;
+            }
+        };
+        while let Some(line) = finished(&mut rest) {
+            if begun.is_none() {
+                printer.answer(line)?;
+            } else {
+                begun.more(line);
+                printer.answer(&begun.held)?;
+                begun.end();
+            }
+        }
+        begun.more(rest);
+        printer.write_out()?;
+    }
+    if !begun.is_none() {
+        printer.answer(&begun.held)?;
+    }
+    printer.write_out()
 }

@@ -16,7 +16,8 @@ use Rattle.compare.specs.Rule.{File, unopened, opened, Row, line, broken
 use Rattle.compare.specs.Rule.{rowsOf, seen, isBad, rest, Position, alone, pairs}
 use Rattle.compare.specs.Rule.{sameBytes, sameRow, moved, difference, tellsFrom, version, tellsRows, tells, printed, compared}
 use Rattle.compare.specs.Totals.{refuses}
-use Rattle.compare.specs.Parts.{joined, steps}
+use Rattle.lines.specs.Carry.{joined}
+use Rattle.compare.specs.Parts.{steps}
 use Rattle.compare.specs.Step.{start}
 use Rattle.compare.specs.declared.step.Step.{Step}
 use Rattle.compare.proofs.step.position.Reads as position

@@ -9,7 +9,7 @@ use lib.Dec.{eqb}
 use lib.ListN.{length}
 use borrow.Author.Tests.{lt-ltb, eqb-true, ne-eqb}
 use Rattle.numbers.specs.Told.{choose}
-use Rattle.lines.specs.Carry.{linesFrom, inputLines}
+use Rattle.lines.specs.Carry.{joined, linesFrom, inputLines}
 use Rattle.lines.specs.Lines.{countDigits}
 use Rattle.lines.specs.Reading.{lineOf}
 use Rattle.lines.specs.declared.listed.Moved.{Moved}
@@ -23,7 +23,7 @@ use Rattle.compare.specs.Seen.{goodFirst, mayStand, seenIn, read, versio
 use Rattle.compare.specs.Step.{toldLines, tell, up, isDifference, isLast, totalAfter, start, nextOf, stepOf}
 use Rattle.compare.specs.Rule.{Row, line, broken, none, rowsOf, seen, isBad, first, rest, Position, pairs, sameBytes, sameRow}
 use Rattle.compare.specs.Rule.{movedIn, moved, difference, tellsFrom, tellsRows, tells, opened, printed, compared}
-use Rattle.compare.specs.Parts.{Side, joined, next, steps}
+use Rattle.compare.specs.Parts.{Side, next, steps}
 use Rattle.compare.specs.declared.seen.Seen.{Seen}
 use Rattle.compare.specs.declared.seen.Seen.the-variants.{Good, Bad, Nothing}
 use Rattle.compare.specs.declared.step.State.{State}

@@ -7,15 +7,15 @@ use native.Mathlib.Nat.{le-antisymm}
 use lib.Dec.{ltb}
 use lib.ListN.{length, take, drop}
 use borrow.Author.Tests.{ltb-true, ltb-false}
-use Rattle.lines.specs.Carry.{Held, fresh, keep, Lines, linesFrom, withLast}
+use Rattle.lines.specs.Carry.{Held, fresh, hasBegun, keep, joined, Lines, linesFrom, withLast}
 use Rattle.lines.specs.Carry as carry
 use Rattle.lines.specs.Fields.{newline, span}
 use Rattle.lines.proofs.Flags.{chosen}
-use Rattle.lines.proofs.Cutting.{keep-keep, lines-piece, cut-at-newline, span-at-most}
-use Rattle.compare.specs.Seen.{readKept, readLast, hasBegun}
+use Rattle.lines.proofs.Cutting.{keep-keep, lines-piece, cut-at-newline, span-at-most, begun-kept}
+use Rattle.compare.specs.Seen.{readKept, readLast}
 use Rattle.compare.specs.Rule.{Row, line, broken, none, rowsOf, seen, first, rest}
-use Rattle.compare.specs.Parts.{joined, Side, Pulled, pulled, next}
-use Rattle.compare.proofs.Kept.{kept-whole, begun-kept}
+use Rattle.compare.specs.Parts.{Side, Pulled, pulled, next}
+use Rattle.compare.proofs.Kept.{kept-whole}
 
 -- the rows of the lines of an input, and of a line that has begun
 abbrev rowsIn : Bool → Lines → List Row

@@ -2,7 +2,7 @@
 use mathlib.Core.Path.{_≡_, refl, ap, _∙_, sym, subst}
 use mathlib.Core.Bool.{Bool, true, false, false≢true}
 use mathlib.Core.List.{List, [], _∷_, _++_, append-assoc}
-use Prim.Native.Nat.{ℕ, suc, _+_, _-_, _≤_, _<_}
+use Prim.Native.Nat.{ℕ, _+_, _-_, _≤_, _<_}
 use native.Mathlib.Nat.{add-assoc, add-zero, min-eq-left}
 use native.Mathlib.Numerals.{add-one}
 use native.Mathlib.Omega.{arith}
@@ -24,19 +24,6 @@ use Rattle.compare.specs.declared.step.Step.{Step}
 use Rattle.compare.specs.declared.stretch.Reached.{Reached}
 use Rattle.compare.proofs.Chunks.{line-ends}
 use Rattle.compare.proofs.Kept.{kept-whole}
-
--- how far it is at most from where it stops
-abbrev pub ahead : List ℕ → Reached → ℕ
-ahead bench r = choose (r .stopped) 0 (suc (length bench - r .bench))
-
-pub comes-nearer : (bench : List ℕ) (r q : Reached) → r .stopped ≡ false
-    → (q .stopped ≡ false → (r .bench < q .bench) × (q .bench ≤ length bench)) → ahead bench q < ahead bench r
-comes-nearer bench r q going near = rw going (by-flag (q .stopped) near)
-  where
-    by-flag : (t : Bool) → (t ≡ false → (r .bench < q .bench) × (q .bench ≤ length bench))
-        → choose t 0 (suc (length bench - q .bench)) < suc (length bench - r .bench)
-    by-flag true h = omega arith
-    by-flag false h = let n = h refl in omega (arith, n .0, n .1)
 
 module _ (bench office : List ℕ) where
   -- nothing yet

@@ -2,7 +2,7 @@
 -- position is told.
 use Prim.Native.Nat.{ℕ, zero, suc}
 use mathlib.Core.Bool.{Bool, false}
-use mathlib.Core.List.{List, [], _∷_, _++_}
+use mathlib.Core.List.{List, [], _∷_}
 use lib.Dec.{ltb}
 use lib.ListN.{length, take, drop}
 use Rattle.numbers.specs.Told.{choose}
@@ -21,10 +21,6 @@ use Rattle.compare.specs.declared.step.State.{State}
 pub record Side : Type 0 where
   pub failed : Bool
   pub parts : List (List ℕ)
-
-unfoldable pub joined : List (List ℕ) → List ℕ
-joined [] = []
-joined (p ∷ ps) = p ++ joined ps
 
 -- what it has at a position, after what is kept of the line, and what is left then. Behind its end it is not read again
 pub record Pulled : Type 0 where

@@ -3,10 +3,9 @@
 use Prim.Native.Nat.{ℕ}
 use mathlib.Core.Bool.{Bool, true, false, not, _||_}
 use mathlib.Core.List.{List}
-use lib.Dec.{eqb, ltb}
-use lib.ListN.{length}
+use lib.Dec.{eqb}
 use Rattle.numbers.specs.Told.{choose}
-use Rattle.lines.specs.Carry.{Held}
+use Rattle.lines.specs.Carry.{Held, hasBegun}
 use Rattle.lines.specs.Lines.{countDigits}
 use Rattle.lines.specs.Reading.{lineOf}
 use Rattle.lines.specs.declared.listed.Line.{Line}
@@ -48,9 +47,6 @@ readKept version h = choose (h .overlong) Bad (read version (h .text))
 
 -- where a file's bytes end: a read that failed makes the line that it interrupts a bad one; what follows the last newline is a line, if
 -- there is some; a file with no line 1 is bad there
-unfoldable pub hasBegun : Held → Bool
-hasBegun h = h .overlong || ltb 0 (length (h .text))
-
 unfoldable pub readLast : Bool → ℕ → Held → Seen
 readLast failed version h =
     choose failed Bad (choose (hasBegun h) (readKept version h) (choose (eqb version 0) Bad Nothing))

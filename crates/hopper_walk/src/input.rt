@@ -1,121 +1,79 @@
-// Lines from standard input, in chunks of any size that the system hands over.
-use crate::output;
+// Standard input, in parts of any size that the system hands over, fed to the printer.
 use libc::STDIN_FILENO;
-use lines::carry;
-use lines::carry::Carry;
-use lines::fields;
-use lines::record::Asked;
-use listing::asks;
 use listing::block;
+use listing::printer;
+use listing::printer::Printer;
 use outlet::Out;
 
-// Between two chunks: the line that has begun, and what waits to be written.
+// Between two parts: the printer, and what waits to be written.
 struct State {
-    carry: Carry,
+    printer: Printer,
     at: usize,
     open: bool,
 }
 
-// A line's block.
-fn answered(buf: &mut [u8], at: usize, open: bool, a: Asked) -> Out {
-    output::printed(buf, Out { at: at, open: open }, block::whole(a))
+// Writes the first n bytes out.
+fn front(buf: &[u8], n: usize) -> bool {
+    outlet::front(buf, n, b"hopper-walk: standard output")
 }
 
-// The line from `from` to `to` of a chunk, after what is kept of it.
-fn line(buf: &mut [u8], st: State, s: &[u8], from: usize, to: usize) -> State {
-    if to < from {
-        return st;
-    }
-    if s.len() < to {
-        return st;
-    }
-    let o = answered(buf, st.at, st.open, asks::finished(st.carry, &s[from..to]));
-    State {
-        carry: carry::empty(),
-        at: o.at,
-        open: o.open,
-    }
-}
-
-// The bytes of a chunk after its last newline: a line that has begun.
-fn begun(st: State, s: &[u8], from: usize) -> State {
-    let n = s.len();
-    if from <= n {
-        State {
-            carry: carry::more(st.carry, &s[from..n]),
-            at: st.at,
-            open: st.open,
-        }
-    } else {
-        st
-    }
-}
-
-// A chunk's lines, one after the other.
-fn taken(buf: &mut [u8], st: State, s: &[u8]) -> State {
-    let mut st = st;
-    let mut i: usize = 0;
-    while i < s.len() {
-        let e = fields::field_end(s, i, b'\n');
-        if e < s.len() {
-            st = line(buf, st, s, i, e);
-            i = e + 1;
+// A part, gone through to its end. Where the buffer is full it is written out, and the printer goes on.
+fn through(buf: &mut [u8], st: State, part: &[u8]) -> State {
+    let mut p = st.printer;
+    let mut from: usize = 0;
+    let mut at = st.at;
+    let mut open = st.open;
+    let mut turns = u64::MAX;
+    while turns > 0 {
+        let q = printer::put(p, part, from, buf, at);
+        p = q.printer;
+        from = q.from;
+        at = q.at;
+        if printer::is_through(q, part.len()) | !open {
+            turns = 0;
         } else {
-            st = begun(st, s, i);
-            i = s.len();
+            open = front(buf, at);
+            at = 0;
+            turns -= 1;
         }
     }
-    st
+    State {
+        printer: p,
+        at,
+        open,
+    }
 }
 
-// A chunk, and then what waits is written out.
-fn fed(buf: &mut [u8], st: State, s: &[u8]) -> State {
-    let st = taken(buf, st, s);
-    let carry = st.carry;
-    let o = output::flushed(
-        buf,
-        Out {
-            at: st.at,
-            open: st.open,
-        },
-    );
+// A part, and then what waits is written out.
+fn fed(buf: &mut [u8], st: State, part: &[u8]) -> State {
+    let st = through(buf, st, part);
+    let p = st.printer;
+    let waits = Out {
+        at: st.at,
+        open: st.open,
+    };
+    let o = outlet::flushed(buf, waits, b"hopper-walk: standard output");
     State {
-        carry: carry,
+        printer: p,
         at: o.at,
         open: o.open,
     }
 }
 
-// The line without a newline at the end of the input, if there is one.
-fn last(buf: &mut [u8], st: State) -> Out {
-    if carry::has_begun(st.carry) {
-        answered(buf, st.at, st.open, asks::asked(st.carry))
-    } else {
-        Out {
-            at: st.at,
-            open: st.open,
-        }
-    }
-}
-
-// The end of the input: the last line, and then what waits is written out.
+// The end of the input: the line that has begun, if there is one, is answered.
 fn ended(buf: &mut [u8], st: State) {
-    let o = last(buf, st);
-    output::flushed(buf, o);
+    let st = State {
+        printer: printer::end(st.printer),
+        at: st.at,
+        open: st.open,
+    };
+    fed(buf, st, b"");
 }
 
-// After a read that gave nothing: the input has ended, or reading failed. A failure is told on standard error, and the
-// line that had begun is dropped, since the rest of it is not known.
-fn stopped(st: State, got: isize) -> State {
+// A read that failed is told on standard error. What was read before it is the input.
+fn told(got: isize) {
     if got < 0 {
         os::fail(b"hopper-walk: standard input");
-        State {
-            carry: carry::empty(),
-            at: st.at,
-            open: st.open,
-        }
-    } else {
-        st
     }
 }
 
@@ -125,7 +83,7 @@ pub fn run() {
     let mut chunk = io::large_buffer();
     let at = block::header(&mut buf, 0);
     let mut st = State {
-        carry: carry::empty(),
+        printer: printer::fresh(),
         at: at,
         open: true,
     };
@@ -133,7 +91,7 @@ pub fn run() {
     while turns > 0 {
         let got = libc::read(STDIN_FILENO, &mut chunk);
         if got <= 0 {
-            st = stopped(st, got);
+            told(got);
             turns = 0;
         } else {
             let n = io::count(got, &chunk);

@@ -3,7 +3,6 @@
 // is told on standard error, in a line that begins with the program's name: a program has no exit status of its own,
 // and the script that runs it makes one from that line (tools/program).
 mod input;
-mod output;
 
 fn main() {
     input::run();

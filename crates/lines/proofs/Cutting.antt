@@ -10,10 +10,10 @@ use lib.Dec.{eqb, leb, ltb}
 use native.Mathlib.Numerals.{add-one}
 use lib.ListN.{length, getD, take, drop, set, length-append, length-take}
 use lib.Seq.{take-all, take-suc, take-suc-set}
-use borrow.Author.Tests.{le-leb, lt-leb, leb-true, leb-false, eqb-true, ltb-false}
+use borrow.Author.Tests.{le-leb, lt-leb, lt-ltb, leb-true, leb-false, eqb-true, ltb-false}
 use Rattle.numbers.specs.Told.{choose}
 use Rattle.lines.specs.Fields.{newline, span}
-use Rattle.lines.specs.Carry.{Held, fresh, tooLong, keep, Lines, line, linesFrom, Run, ran, runFrom}
+use Rattle.lines.specs.Carry.{Held, fresh, tooLong, hasBegun, keep, Lines, line, linesFrom, Run, ran, runFrom}
 
 by-flag : (n : ℕ) (t : Bool) → leb n 128 ≡ t → (n ≤ 128) ⊎ (128 < n)
 by-flag n true e = inl (leb-true n 128 e)
@@ -126,14 +126,25 @@ no-newline true n m u v w e f = absurd (omega arith)
 no-newline false n m u v w e f = f (omega arith)
 
 -- bytes without a newline are kept at once
-pub run-piece : (a s : List ℕ) (h : Held) → keep h [] ≡ h → span newline a ≡ length a → runFrom h (a ++ s) ≡ runFrom (keep h a) s
+kept-again : (h : Held) (x : ℕ) → keep (keep h (x ∷ [])) [] ≡ keep h (x ∷ [])
+kept-again h x = keep-keep h (x ∷ []) [] ∙ ap (keep h) (append-nil (x ∷ []))
+
+run-on : (x : ℕ) (a s : List ℕ) (h : Held) → span newline (x ∷ a) ≡ length (x ∷ a)
+    → (span newline a ≡ length a → runFrom (keep h (x ∷ [])) (a ++ s) ≡ runFrom (keep (keep h (x ∷ [])) a) s)
+    → runFrom h ((x ∷ a) ++ s) ≡ runFrom (keep h (x ∷ a)) s
 unfolding runFrom span
-run-piece [] s h whole free = ap (λ (k : Held). runFrom k s) (sym whole)
-run-piece (x ∷ a) s h whole free =
+run-on x a s h free onward =
     no-newline (eqb x newline) (span newline a) (length a) _ _ _ free
-    (λ e.
-    run-piece a s (keep h (x ∷ [])) (keep-keep h (x ∷ []) [] ∙ ap (keep h) (append-nil (x ∷ []))) e
-    ∙ ap (λ (k : Held). runFrom k s) (keep-keep h (x ∷ []) a))
+    (λ e. onward e ∙ ap (λ (k : Held). runFrom k s) (keep-keep h (x ∷ []) a))
+
+pub run-piece : (a s : List ℕ) (h : Held) → keep h [] ≡ h → span newline a ≡ length a → runFrom h (a ++ s) ≡ runFrom (keep h a) s
+run-piece [] s h whole free = ap (λ (k : Held). runFrom k s) (sym whole)
+run-piece (x ∷ a) s h whole free = run-on x a s h free (run-piece a s (keep h (x ∷ [])) (kept-again h x))
+
+-- and where there are some, whatever was kept before
+pub run-some : (x : ℕ) (a s : List ℕ) (h : Held) → span newline (x ∷ a) ≡ length (x ∷ a)
+    → runFrom h ((x ∷ a) ++ s) ≡ runFrom (keep h (x ∷ a)) s
+run-some x a s h free = run-on x a s h free (run-piece a s (keep h (x ∷ [])) (kept-again h x))
 
 -- the lines of an input: a piece without a newline goes on with the line that has begun
 pub lines-piece : (a s l : List ℕ) → span newline a ≡ length a → linesFrom l (a ++ s) ≡ linesFrom (l ++ a) s
@@ -142,6 +153,34 @@ lines-piece [] s l free = ap (λ (k : List ℕ). linesFrom k s) (sym (append-nil
 lines-piece (x ∷ a) s l free =
     no-newline (eqb x newline) (span newline a) (length a) _ _ _ free
     (λ e. lines-piece a s (l ++ (x ∷ [])) e ∙ ap (λ (k : List ℕ). linesFrom k s) (append-assoc l (x ∷ []) a))
+
+-- the lines of an input in two parts
+pub lines-joined : (a s l : List ℕ) → linesFrom l (a ++ s) ≡ record {
+  finished = linesFrom l a .finished ++ linesFrom (linesFrom l a .begun) s .finished;
+  begun = linesFrom (linesFrom l a .begun) s .begun;
+}
+unfolding linesFrom
+lines-joined [] s l = refl
+lines-joined (x ∷ a) s l =
+    both-ways (λ (r : Lines). record { finished = r .finished ++ linesFrom (r .begun) s .finished; begun = linesFrom (r .begun) s .begun })
+    (eqb x newline) _ _ (line l (linesFrom [] a)) (linesFrom (l ++ (x ∷ [])) a)
+    (ap (line l) (lines-joined a s [])) (lines-joined a s (l ++ (x ∷ [])))
+
+-- a newline finishes the line that has begun
+pub lines-newline : (l s : List ℕ) → linesFrom l (newline ∷ s) ≡ line l (linesFrom [] s)
+unfolding linesFrom
+lines-newline l s = refl
+
+-- behind a newline at the end nothing has begun
+pub none-begun : (s l : List ℕ) → linesFrom l (s ++ (newline ∷ [])) .begun ≡ []
+unfolding linesFrom
+none-begun [] l = refl
+none-begun (x ∷ s) l = by-test (eqb x newline) (none-begun s []) (none-begun s (l ++ (x ∷ [])))
+  where
+    by-test : (t : Bool) → linesFrom [] (s ++ (newline ∷ [])) .begun ≡ [] → linesFrom (l ++ (x ∷ [])) (s ++ (newline ∷ [])) .begun ≡ []
+        → choose t (line l (linesFrom [] (s ++ (newline ∷ [])))) (linesFrom (l ++ (x ∷ [])) (s ++ (newline ∷ []))) .begun ≡ []
+    by-test true e f = e
+    by-test false e f = f
 
 -- a part with a newline, cut at its first one
 abbrev pub Splits : List ℕ → ℕ → Type 0
@@ -169,7 +208,29 @@ span-at-most (x ∷ p) = by-test (eqb x newline) (span-at-most p)
     by-test false h = omega arith
 
 -- where no line has begun, nothing is kept
-pub nothing-kept : (o : Bool) (n : ℕ) (row : List ℕ) → (o || ltb 0 n) ≡ false → record { overlong = o; text = take n row } ≡ fresh
-nothing-kept true n row e = cc
-nothing-kept false zero row e = refl
-nothing-kept false (suc n) row e = let h : suc n ≤ 0 = ltb-false 0 (suc n) e in absurd (omega arith)
+nothing-begun : (o : Bool) (t : List ℕ) → (o || ltb 0 (length t)) ≡ false → record { overlong = o; text = t } ≡ fresh
+nothing-begun true t e = cc
+nothing-begun false [] e = refl
+nothing-begun false (b ∷ t) e = let h : suc (length t) ≤ 0 = ltb-false 0 (suc (length t)) e in absurd (omega arith)
+
+pub nothing-kept : (h : Held) → hasBegun h ≡ false → h ≡ fresh
+unfolding hasBegun
+nothing-kept h e = nothing-begun (h .overlong) (h .text) e
+
+-- a line has begun where a byte of it is kept
+pub begun-held : (o : Bool) (n : ℕ) (row : List ℕ) → length row ≡ 128
+    → hasBegun (record { overlong = o; text = take n row }) ≡ (o || ltb 0 n)
+unfolding hasBegun
+begun-held true n row full = refl
+begun-held false zero row full = refl
+begun-held false (suc n) [] full = absurd (omega arith)
+begun-held false (suc n) (b ∷ row) full =
+    lt-ltb 0 (suc (length (take n row))) (omega arith) ∙ sym (lt-ltb 0 (suc n) (omega arith))
+
+pub begun-kept : (b : ℕ) (l : List ℕ) → hasBegun (keep fresh (b ∷ l)) ≡ true
+unfolding hasBegun keep
+begun-kept b l = by-length (leb (0 + suc (length l)) 128)
+  where
+    by-length : (t : Bool) → hasBegun (choose t (record { overlong = false; text = b ∷ l }) tooLong) ≡ true
+    by-length true = lt-ltb 0 (suc (length l)) (omega arith)
+    by-length false = refl

@@ -1,9 +1,10 @@
--- The two cases of a test on numbers, and what the last arm of a match knows.
+-- The two cases of a test on numbers, a loop that ends by a flag, and what the last arm of a match knows.
 use mathlib.Core.Path.{_≡_, refl, sym}
 use mathlib.Core.Bool.{Bool, true, false, not, false≢true}
 use mathlib.Core.Logic.{_⊎_, inl, inr, ⊎-elim}
-use Prim.Native.Nat.{ℕ, zero, suc, _≤_, _<_, zero-le}
+use Prim.Native.Nat.{ℕ, zero, suc, _-_, _≤_, _<_, zero-le}
 use native.Mathlib.Nat.{le-antisymm}
+use native.Mathlib.Omega.{arith}
 use lib.Dec.{ltb}
 use borrow.Author.Tests.{ltb-true, ltb-false}
 use Rattle.numbers.specs.Told.{choose}
@@ -28,6 +29,14 @@ not-true false e = refl
 pub chosen : {A : Type 0} (P : A → Type 0) (t : Bool) (x y : A) → (t ≡ true → P x) → (t ≡ false → P y) → P (choose t x y)
 chosen P true x y f g = f refl
 chosen P false x y f g = g refl
+
+-- how far a loop is at most from where it stops, which goes on to places up to n
+abbrev pub ahead : ℕ → ℕ → Bool → ℕ
+ahead n i stopped = choose stopped 0 (suc (n - i))
+
+pub comes-nearer : (n i j : ℕ) (s t : Bool) → s ≡ false → (t ≡ false → (i < j) × (j ≤ n)) → ahead n j t < ahead n i s
+comes-nearer n i j s true going near = rw going (omega arith)
+comes-nearer n i j s false going near = let h = near refl in rw going (omega (arith, h .0, h .1))
 
 -- a number that none of the arms 0 .. n - 1 of a match has
 abbrev pub Missed : ℕ → ℕ → Type 0

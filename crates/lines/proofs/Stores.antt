@@ -2,13 +2,13 @@
 use mathlib.Core.Path.{_≡_, refl, ap, _∙_, sym}
 use mathlib.Core.Bool.{Bool, true}
 use mathlib.Core.List.{List, [], _∷_, _++_}
-use Prim.Native.Nat.{ℕ, suc, _+_, _≤_, _<_}
+use Prim.Native.Nat.{ℕ, suc, _+_, _≤_}
 use native.Mathlib.Nat.{add-zero, suc-add, add-suc}
 use native.Mathlib.Omega.{arith}
 use lib.ListN.{length, set, take, drop, length-append}
 use Rattle.numbers.specs.Told.{choose}
 use Rattle.lines.specs.Stored.{Stored}
-use lib.Seq.{sets, sets-eq, set-comm, take-at, length-take-le, length-sets}
+use lib.Seq.{sets, sets-eq, set-comm, take-at, drop-at, length-take-le, length-sets}
 
 -- the places of a run of stores, as its next and next
 pub add-nine : (n : ℕ) → n + 9 ≡ suc (n + 8)
@@ -65,3 +65,16 @@ stored-where {a = a} e p = stored-as (ap (λ (b : Bool). choose b a []) (sym e))
 
 pub stored-nothing : {l : List ℕ} {at : ℕ} → Stored l at [] at l
 stored-nothing {l} {at} = record { place = omega arith; bytes = refl }
+
+-- the buffer keeps its length, and what is stored within it stands there
+pub stored-length : {l l′ : List ℕ} {at r : ℕ} {a : List ℕ} → Stored l at a r l′ → length l′ ≡ length l
+stored-length {l} {at = at} {a = a} p = ap length (p .bytes) ∙ length-sets l at a
+
+pub stored-stands : {l l′ : List ℕ} {at r : ℕ} {a : List ℕ} → Stored l at a r l′ → at ≤ length l → r ≤ length l′ → drop at (take r l′) ≡ a
+stored-stands {l} {l′} {at} {r} {a} p inside within =
+    let same : length l′ ≡ length l = stored-length p in
+    let place : r ≡ at + length a = p .place in
+    ap (λ (m : List ℕ). drop at (take r m)) (p .bytes)
+    ∙ ap (λ (k : ℕ). drop at (take k (sets l at a))) place
+    ∙ ap (drop at) (front-stored l at a (omega arith))
+    ∙ drop-at (take at l) a at (length-take-le at l inside)

@@ -17,8 +17,8 @@ abbrev pub held : Carry → Held
 held c = record { overlong = c .overlong; text = take (c .len) (c .bytes) }
 
 -- whether a line has begun
-abbrev pub begun : Carry → Bool
-begun c = c .overlong || ltb 0 (c .len)
+unfoldable pub hasBegun : Held → Bool
+hasBegun h = h .overlong || ltb 0 (length (h .text))
 
 abbrev pub fresh : Held
 fresh = record { overlong = false; text = [] }
@@ -31,6 +31,11 @@ unfoldable pub keep : Held → List ℕ → Held
 keep h s =
     choose (h .overlong) tooLong
     (choose (leb (length (h .text) + length s) 128) (record { overlong = false; text = h .text ++ s }) tooLong)
+
+-- an input that comes in parts
+unfoldable pub joined : List (List ℕ) → List ℕ
+joined [] = []
+joined (part ∷ parts) = part ++ joined parts
 
 -- "the line end is one newline byte. Bytes after the last newline, if there are some, are a line too": the finished lines
 -- of an input and what follows the last newline, after a line that has begun

@@ -2,7 +2,7 @@
 // line is only known to be too long.
 ghost use mathlib.Core.Path.{_≡_};
 ghost use Prim.Native.Nat.{min};
-ghost use Rattle.lines.specs.Carry.{held, keep, fresh, tooLong, begun};
+ghost use Rattle.lines.specs.Carry.{held, keep, fresh, tooLong, hasBegun};
 
 // What is kept of an unfinished line: its first `len` bytes, or that it is too long.
 pub struct Carry {
@@ -67,7 +67,7 @@ pub fn more(c: Carry, s: &[u8]) -> Carry
 
 // Whether a line has begun.
 pub fn has_begun(c: Carry) -> bool
-    ensures { λ r. ⌜ r ≡ begun c ⌝ }
+    ensures { λ r. ⌜ r ≡ hasBegun (held c) ⌝ }
 {
     c.overlong | (0 < c.len)
 }

@@ -37,7 +37,7 @@ pub enum Found {
 // A step's line.
 pub(crate) fn put_move(buf: &mut [u8], at: usize, m: Moved) -> usize
     requires { ⌜ at + 40 ≤ length (now buf) ⌝ }
-    ensures { λ r. ⌜ Stored (now (buf .entry)) at (written (Line.Move m)) r (now (buf .exit)) ⌝ }
+    ensures { λ r. ⌜ Stored (now (buf .entry)) at (written (Line.Move m)) r (now (buf .exit)) × (r ≤ at + 40) ⌝ }
 {
     let a = put::letter(buf, at, b'M');
     let b = put::count(buf, a, m.count as u64);
@@ -50,7 +50,7 @@ pub(crate) fn put_move(buf: &mut [u8], at: usize, m: Moved) -> usize
 // A line of a letter and a number.
 pub(crate) fn put_short(buf: &mut [u8], at: usize, letter: u8, n: u32) -> usize
     requires { ⌜ at + 40 ≤ length (now buf) ⌝ }
-    ensures { λ r. ⌜ Stored (now (buf .entry)) at (ended (lettered letter n)) r (now (buf .exit)) ⌝ }
+    ensures { λ r. ⌜ Stored (now (buf .entry)) at (ended (lettered letter n)) r (now (buf .exit)) × (r ≤ at + 40) ⌝ }
 {
     let a = put::letter(buf, at, letter);
     let b = put::count(buf, a, n as u64);
@@ -60,7 +60,7 @@ pub(crate) fn put_short(buf: &mut [u8], at: usize, letter: u8, n: u32) -> usize
 // The header.
 pub(crate) fn put_header(buf: &mut [u8], at: usize, version: u32) -> usize
     requires { ⌜ at + 40 ≤ length (now buf) ⌝ }
-    ensures { λ r. ⌜ Stored (now (buf .entry)) at (written (Line.Header version)) r (now (buf .exit)) ⌝ }
+    ensures { λ r. ⌜ Stored (now (buf .entry)) at (written (Line.Header version)) r (now (buf .exit)) × (r ≤ at + 40) ⌝ }
 {
     let a = put::name(buf, at);
     let b = put::count(buf, a, version as u64);
@@ -70,7 +70,8 @@ pub(crate) fn put_header(buf: &mut [u8], at: usize, version: u32) -> usize
 // A line with its newline, stored from `at` on; gives the place after it. No line is longer than 40 bytes: where the
 // buffer has not that much room, nothing is stored and the place stays.
 pub fn put_line(buf: &mut [u8], at: usize, line: Line) -> usize
-    ensures { λ r. ⌜ Stored (now (buf .entry)) at (choose (hasRoom (now (buf .entry)) at) (written line) []) r (now (buf .exit)) ⌝ }
+    ensures { λ r. ⌜ Stored (now (buf .entry)) at (choose (hasRoom (now (buf .entry)) at) (written line) []) r (now (buf .exit))
+        × (r ≤ at + 40) ⌝ }
 {
     let n = buf.len();
     if n < 40 {

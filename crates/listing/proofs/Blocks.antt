@@ -1,6 +1,6 @@
 -- A block's lines, one after the other, join to the block; what is left of a walk's block is that of document 01.
 use mathlib.Core.Path.{_≡_, refl, sym, ap, _∙_, subst}
-use mathlib.Core.Bool.{Bool, true, false, not, _&&_}
+use mathlib.Core.Bool.{Bool, true, false, not, _&&_, false≢true}
 use mathlib.Core.List.{List, [], _++_, append-assoc, append-nil}
 use Prim.Native.Nat.{ℕ, zero, suc, _+_, _-_, _≤_, _<_}
 use native.Mathlib.Omega.{arith}
@@ -9,7 +9,7 @@ use lib.Dec.{T, eqb, ltb, leb}
 use lib.ListN.{length}
 use lib.Ieee.{Float, binary32, ofBits, eq}
 use lib.Ieee.Bits.{is-true, is-false}
-use borrow.Author.Tests.{ltb-true, ltb-false, leb-false, ne-eqb}
+use borrow.Author.Tests.{ltb-true, ltb-false, leb-true, leb-false, ne-eqb}
 use Rattle.legs.specs.declared.Point.{Point}
 use Rattle.moves.specs.Distance.{Each, same}
 use Rattle.moves.specs.Moving.{moveTowards, pointOf}
@@ -22,7 +22,7 @@ use Rattle.lines.specs.Stored.{Stored}
 use Rattle.lines.specs.Lines.{written, hasRoom}
 use Rattle.lines.specs.declared.listed.Line.{Line}
 use Rattle.lines.specs.declared.listed.Line.the-variants.{Arrived, Refused}
-use Rattle.lines.proofs.Stores.{stored-more, stored-as, stored-nothing}
+use Rattle.lines.proofs.Stores.{stored-more, stored-as, stored-nothing, stored-length}
 use Rattle.listing.specs.Listing.{step, steps, WalkPrints}
 use Rattle.listing.specs.Block.{endLine, mostSteps, movesOn, left, textOf, stepped, ended, afterOf, lineOf, linesLeft, Part}
 use Rattle.listing.specs.declared.block.Rest.{Rest}
@@ -144,13 +144,22 @@ fewer-after r q going is = subst (λ (p : Rest). linesLeft p < linesLeft r) (sym
 
 -- nothing is stored yet
 pub part-none : (l : List ℕ) (at : ℕ) (whole : List ℕ) → Part l at whole at whole l
-part-none l at whole = record { text = []; stored = stored-nothing; joins = refl }
+part-none l at whole = record { text = []; stored = stored-nothing; joins = refl; within = λ h. h }
+
+-- at the same place of a buffer of the same length there is the same room
+pub same-room : (l l′ : List ℕ) (k k′ : ℕ) → k′ ≡ k → length l′ ≡ length l → hasRoom l k ≡ hasRoom l′ k′
+same-room l l′ k k′ at long = ap (λ (n : ℕ). leb (k + 40) n) (sym long) ∙ ap (λ (i : ℕ). leb (i + 40) (length l′)) (sym at)
+
+pub no-room : {A : Type 0} (l l′ : List ℕ) (k k′ : ℕ) → hasRoom l k ≡ false → k′ ≡ k → length l′ ≡ length l → hasRoom l′ k′ ≡ true → A
+no-room l l′ k k′ none at long room = absurd (false≢true (sym none ∙ same-room l l′ k k′ at long ∙ room))
 
 -- one line more
 pub part-more : {l l′ l″ : List ℕ} {at k k′ : ℕ} {whole : List ℕ} (r q : Rest) (x : Line)
     → Part l at whole k (textOf r) l′ → r .done ≡ false → hasRoom l′ k ≡ true → q ≡ afterOf r → x ≡ lineOf q
-    → Stored l′ k (choose (hasRoom l′ k) (written x) []) k′ l″ → Part l at whole k′ (textOf q) l″
-part-more {l} {l′} {l″} {at} {k} {k′} {whole} r q x p going room is line s =
+    → Stored l′ k (choose (hasRoom l′ k) (written x) []) k′ l″ → k′ ≤ k + 40 → Part l at whole k′ (textOf q) l″
+part-more {l} {l′} {l″} {at} {k} {k′} {whole} r q x p going room is line s few =
+    let fits : k + 40 ≤ length l′ = leb-true (k + 40) (length l′) room in
+    let same : length l″ ≡ length l′ = stored-length s in
     record {
       text = p .text ++ written x;
       stored = stored-more (p .stored) (stored-as (ap (λ (b : Bool). choose b (written x) []) room) s);
@@ -160,6 +169,7 @@ part-more {l} {l′} {l″} {at} {k} {k′} {whole} r q x p going room is line s
           (next-line r going ∙ sym (ap (λ (n : Rest). written (lineOf n) ++ textOf n) is)
           ∙ sym (ap (λ (y : Line). written y ++ textOf q) line))
           ∙ sym (append-assoc (p .text) (written x) (textOf q));
+      within = λ h. omega arith;
     }
 
 -- ---- the block of a walk, and of one that is refused
@@ -190,14 +200,10 @@ module _ (m : Float) (s t s′ t′ : Point) (es : s′ ≡ s) (et : t′ ≡ t)
       → WalkPrints m s t text
   refusal-printed n text r some e = same-walk text (refused-walk m s′ t′ n text r some e)
 
--- ---- parts written one after the other: with nothing left, they join to the block
+-- ---- with nothing left
 pub done-text : (r : Rest) → r .done ≡ true → textOf r ≡ []
 unfolding textOf
 done-text r e = rw e
-
-pub parts-join : {l l′ k k′ : List ℕ} {at at′ next next′ : ℕ} {whole rest rest′ : List ℕ} (p : Part l at whole next rest l′)
-    (q : Part k at′ rest next′ rest′ k′) → whole ≡ (p .text ++ q .text) ++ rest′
-parts-join {rest′ = rest′} p q = p .joins ∙ ap (λ (u : List ℕ). p .text ++ u) (q .joins) ∙ sym (append-assoc (p .text) (q .text) rest′)
 
 -- where a block is not done and there is room, the next part is not empty: filling from the front of a buffer of 40 bytes or more goes on
 pub part-goes-on : {l l′ : List ℕ} {at next : ℕ} {whole rest : List ℕ} (d : Bool) → Part l at whole next rest l′ → d ≡ false

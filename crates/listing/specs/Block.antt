@@ -1,9 +1,10 @@
 -- How ours prints a block: what is left of it, the line that comes next, and the part of it that a buffer takes.
-use Prim.Native.Nat.{ℕ, zero, suc, _+_, _-_}
+use Prim.Native.Nat.{ℕ, zero, suc, _+_, _-_, _≤_}
 use mathlib.Core.Path.{_≡_}
 use mathlib.Core.Bool.{Bool, true, false, not, _&&_}
 use mathlib.Core.List.{List, [], _++_}
 use lib.Dec.{eqb, ltb}
+use lib.ListN.{length}
 use lib.Ieee.{Float}
 use Rattle.legs.specs.declared.Point.{Point}
 use Rattle.moves.specs.Distance.{same}
@@ -71,8 +72,9 @@ lineOf r = choose (r .done) (endLine (r .made) (r .refused)) (step (r .made) (r 
 unfoldable pub linesLeft : Rest → ℕ
 linesLeft r = choose (r .done) 0 (suc (mostSteps - r .made))
 
--- a part of a text, stored from a place on, and what is left of it
+-- a part of a text, stored from a place on, and what is left of it. From a place in the buffer it leads to one, so that no byte is lost
 pub record Part (before : List ℕ) (at : ℕ) (whole : List ℕ) (next : ℕ) (rest : List ℕ) (after : List ℕ) : Type 0 where
   pub text : List ℕ
   pub stored : Stored before at text next after
   pub joins : whole ≡ text ++ rest
+  pub within : at ≤ length before → next ≤ length after

@@ -1,3 +1,5 @@
 pub mod Asks
 pub mod Listing
 pub mod Block
+pub mod Printer
+pub mod Stretch

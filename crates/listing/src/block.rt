@@ -8,8 +8,8 @@ use lines::record::Asked;
 use lines::record::Place;
 use lines::record::Walk;
 ghost use mathlib.Core.Path.{_≡_};
-ghost use mathlib.Core.Bool.{false, not, _&&_};
-ghost use Prim.Native.Nat.{_+_};
+ghost use mathlib.Core.Bool.{true, false, not, _&&_};
+ghost use Prim.Native.Nat.{_+_, _≤_};
 ghost use lib.Dec.{leb};
 ghost use mathlib.Core.List.{[]};
 ghost use Rattle.numbers.specs.Told.{choose};
@@ -63,6 +63,15 @@ fn refusal(number: u32) -> Rest
         refused: number,
         done: false,
     }
+}
+
+// Nothing is left to print.
+pub(crate) fn nothing() -> Rest
+    ensures { λ r. ⌜ r .done ≡ true ⌝ }
+{
+    let mut r = refusal(0);
+    r.done = true;
+    r
 }
 
 // The block of a walk. How many steps it has shows as it is gone.
@@ -166,7 +175,7 @@ fn line(r: Rest) -> Line
 // The header.
 pub fn header(buf: &mut [u8], at: usize) -> usize
     ensures { λ r. ⌜ Stored (now (buf .entry)) at (choose (hasRoom (now (buf .entry)) at) (written (Header listingVersion)) [])
-        r (now (buf .exit)) ⌝ }
+        r (now (buf .exit)) × (r ≤ at + 40) ⌝ }
 {
     listed::put_line(buf, at, Line::Header(2))
 }
@@ -174,7 +183,8 @@ pub fn header(buf: &mut [u8], at: usize) -> usize
 // Lines of the block stored from `at` on, until it is done or the buffer has less than a line's room, 40 bytes.
 pub fn fill(buf: &mut [u8], at: usize, r: Rest) -> Filled
     ensures { λ f. ⌜ Part (now (buf .entry)) at (textOf r) (f .at) (textOf (f .rest)) (now (buf .exit))
-        × ((not (f .rest .done) && hasRoom (now (buf .exit)) (f .at)) ≡ false) ⌝ }
+        × ((not (f .rest .done) && hasRoom (now (buf .exit)) (f .at)) ≡ false)
+        × (hasRoom (now (buf .entry)) at ≡ false → f ≡ record { at = at; rest = r }) ⌝ }
 {
     let mut at = at;
     let mut r = r;
@@ -186,7 +196,7 @@ pub fn fill(buf: &mut [u8], at: usize, r: Rest) -> Filled
 }
 
 // Whether a line is left, and fits.
-fn goes_on(done: bool, n: usize, at: usize) -> bool
+pub(crate) fn goes_on(done: bool, n: usize, at: usize) -> bool
     ensures { λ r. ⌜ r ≡ (not done && leb (at + 40) n) ⌝ }
 {
     if done {

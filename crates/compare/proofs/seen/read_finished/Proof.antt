@@ -1,5 +1,6 @@
 -- `compare::seen::read_finished` meets its contract. Where nothing is kept, the bytes are the whole line.
 use mathlib.Core.Path.{ap, sym, _∙_}
+use Rattle.lines.specs.Carry.{held}
 use Rattle.compare.specs.Seen.{readKept}
 use Rattle.compare.proofs.Kept.{kept-now}
 use borrow.Author.Needs.{needs}
@@ -24,10 +25,9 @@ returns c = c .read-kept .ensures ∙ ap (readKept (c .before .before .before .b
 returns-2 : tie.Need-returns-2
 returns-2 c =
     let a = c .before .before .before .before .args in
-    let h = a .c in
     let none = sym (c .before .before .has-begun .ensures) ∙ c .before .if1 .left in
     c .read .ensures
-    ∙ sym (kept-now (a .version) (h .overlong) (h .len) (h .bytes) (a .s .now) none)
+    ∙ sym (kept-now (a .version) (held (a .c)) (a .s .now) none)
 
 pub read-finished-spec : {M : Type 1} → statement M
 read-finished-spec =

@@ -2,9 +2,8 @@
 use mathlib.Core.Path.{_≡_, sym, _∙_}
 use mathlib.Core.Bool.{true, false}
 use borrow.Author.Tests.{eq-eqb, ne-eqb}
-use Rattle.lines.specs.Carry.{held}
-use Rattle.compare.specs.Seen.{hasBegun, readLast}
-use Rattle.compare.proofs.Kept.{begun-held}
+use Rattle.lines.specs.Carry.{held, hasBegun}
+use Rattle.compare.specs.Seen.{readLast}
 use borrow.Author.Needs.{needs}
 use Rattle.compare.proofs.seen.read_last.Statement.{statement}
 use Rattle.compare.proofs.seen.read_last.Tie as tie
@@ -24,7 +23,7 @@ unfolding readLast
 returns-2 c =
     let h = c .before .before .before .before .args .c in
     let begun : hasBegun (held h) ≡ true =
-    begun-held (h .overlong) (h .len) (h .bytes) (search needs) ∙ sym (c .before .before .has-begun .ensures) ∙ c .before .if2 .taken in
+    sym (c .before .before .has-begun .ensures) ∙ c .before .if2 .taken in
     simp (c .before .before .before .if1 .left, begun) (c .read-kept .ensures)
 
 returns-3 : tie.Need-returns-3
@@ -32,7 +31,7 @@ unfolding readLast
 returns-3 c =
     let h = c .before .before .before .before .args .c in
     let begun : hasBegun (held h) ≡ false =
-    begun-held (h .overlong) (h .len) (h .bytes) (search needs) ∙ sym (c .before .before .has-begun .ensures) ∙ c .before .if2 .left in
+    sym (c .before .before .has-begun .ensures) ∙ c .before .if2 .left in
     simp (c .before .before .before .if1 .left, begun, eq-eqb _ 0 (c .if3 .taken))
 
 returns-4 : tie.Need-returns-4
@@ -40,7 +39,7 @@ unfolding readLast
 returns-4 c =
     let h = c .before .before .before .before .args .c in
     let begun : hasBegun (held h) ≡ false =
-    begun-held (h .overlong) (h .len) (h .bytes) (search needs) ∙ sym (c .before .before .has-begun .ensures) ∙ c .before .if2 .left in
+    sym (c .before .before .has-begun .ensures) ∙ c .before .if2 .left in
     simp (c .before .before .before .if1 .left, begun, ne-eqb _ 0 (c .if3 .left))
 
 pub read-last-spec : {M : Type 1} → statement M

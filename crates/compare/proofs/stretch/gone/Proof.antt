@@ -3,8 +3,8 @@ use mathlib.Core.Path.{_≡_, refl}
 use lib.ListN.{length}
 use borrow.Author.Needs.{needs}
 use Rattle.compare.specs.Stretch.{Goes}
-use Rattle.lines.proofs.Flags.{not-true}
-use Rattle.compare.proofs.Stretches.{ahead, comes-nearer, goes-nowhere, goes-more}
+use Rattle.lines.proofs.Flags.{not-true, ahead, comes-nearer}
+use Rattle.compare.proofs.Stretches.{goes-nowhere, goes-more}
 use Rattle.compare.proofs.stretch.gone.Statement.{statement}
 use Rattle.compare.proofs.stretch.gone.Tie as tie
 
@@ -12,7 +12,7 @@ abbrev Inv-loop : tie.InvT-loop
 Inv-loop buf₀ bench office r₀ buf r = Goes bench office buf₀ r₀ buf r × (length buf ≡ length buf₀)
 
 abbrev μ-loop : tie.MeasureT-loop
-μ-loop buf₀ bench office r₀ buf r = ahead bench r
+μ-loop buf₀ bench office r₀ buf r = ahead (length bench) (r .bench) (r .stopped)
 
 loop-holds : tie.Need-loop-holds Inv-loop μ-loop
 loop-holds c =
@@ -27,8 +27,8 @@ loop-less c =
     let r = c .before .before .before .before .before .before .loop .r in
     let q = c .before .before .onward in
     let bench = c .before .before .before .before .before .before .before .before .before .before .args .bench .now in
-    let going = not-true _ (c .before .before .before .before .if1 .taken) in
-    comes-nearer bench r (q .result) going (q .ensures .nearer)
+    let going = not-true (r .stopped) (c .before .before .before .before .if1 .taken) in
+    comes-nearer (length bench) (r .bench) (q .result .bench) (r .stopped) (q .result .stopped) going (q .ensures .nearer)
 
 loop-again : tie.Need-loop-again Inv-loop μ-loop
 loop-again c =

@@ -24,8 +24,8 @@ slice-aggregate-header c = search needs
 header-requires : tie.Need-header-requires Inv-loop μ-loop
 header-requires c κs = search needs
 
-empty-requires : tie.Need-empty-requires Inv-loop μ-loop
-empty-requires c κs = search needs
+fresh-requires : tie.Need-fresh-requires Inv-loop μ-loop
+fresh-requires c κs = search needs
 
 loop-holds : tie.Need-loop-holds Inv-loop μ-loop
 loop-holds c = search needs
@@ -36,8 +36,8 @@ slice-aggregate-read c = search needs
 read-requires : tie.Need-read-requires Inv-loop μ-loop
 read-requires c κs = search needs
 
-stopped-requires : tie.Need-stopped-requires Inv-loop μ-loop
-stopped-requires c κs = search needs
+told-requires : tie.Need-told-requires Inv-loop μ-loop
+told-requires c κs = search needs
 
 loop-less : tie.Need-loop-less Inv-loop μ-loop
 loop-less c = search needs
@@ -91,11 +91,11 @@ run-spec =
     large-buffer-requires-2
     slice-aggregate-header
     header-requires
-    empty-requires
+    fresh-requires
     loop-holds
     slice-aggregate-read
     read-requires
-    stopped-requires
+    told-requires
     loop-less
     loop-again
     slice-aggregate-count

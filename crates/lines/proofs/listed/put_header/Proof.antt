@@ -1,5 +1,4 @@
 -- `lines::listed::put_header` meets its contract. Its runs, one behind the other, are the line.
-use mathlib.Core.Path.{refl}
 use mathlib.Core.List.{append-assoc}
 use native.Mathlib.Omega.{arith}
 use borrow.Author.Needs.{needs}
@@ -29,9 +28,14 @@ same-length c = search needs
 
 returns : tie.Need-returns
 unfolding parted body
-returns c = stored-as (simp append-assoc)
-    (stored-more (stored-more (c .before .before .before .before .before .before .before .before .before .before .name .ensures)
-    (c .before .before .before .before .before .before .count .ensures)) (c .before .before .newline .ensures))
+returns c =
+    let a = c .before .before .before .before .before .before .before .before .before .before .before .before .before .args in
+    let few = length-at-most 9 (a .version) (omega arith) in (
+      stored-as (simp append-assoc)
+          (stored-more (stored-more (c .before .before .before .before .before .before .before .before .before .before .name .ensures)
+          (c .before .before .before .before .before .before .count .ensures)) (c .before .before .newline .ensures)),
+      omega (arith, few),
+    )
 
 pub put-header-spec : {M : Type 1} → statement M
 put-header-spec =

@@ -1,5 +1,4 @@
 -- `lines::listed::put_move` meets its contract. Its runs, one behind the other, are the line.
-use mathlib.Core.Path.{refl}
 use mathlib.Core.List.{append-assoc}
 use native.Mathlib.Omega.{arith}
 use borrow.Author.Needs.{needs}
@@ -75,16 +74,22 @@ same-length c = search needs
 
 returns : tie.Need-returns
 unfolding parted body
-returns c = stored-as (simp append-assoc)
-    (stored-more (stored-more
-    (stored-more (stored-more
-    (stored-more (c .before .before .before .before .before .before .before .before .before .before .before .before .before .before .before
-    .before .before .before .before .before .before .before .before .letter .ensures)
-    (c .before .before .before .before .before .before .before .before .before .before .before .before .before .before .before .before
-    .before .before .count .ensures))
-    (c .before .before .before .before .before .before .before .before .before .before .before .before .before .before .pattern .ensures))
-    (c .before .before .before .before .before .before .before .before .before .before .pattern2 .ensures))
-    (c .before .before .before .before .before .before .pattern3 .ensures)) (c .before .before .newline .ensures))
+returns c =
+    let m = c .before .before .before .before .before .before .before .before .before .before .before .before .before .before .before
+    .before .before .before .before .before .before .before .before .before .before .before .args .m in
+    let few = length-at-most 9 (m .count) (omega arith) in
+    let a = c .before .before .before .before .before .before .before .before .before .before .before .before .before .before .before
+    .before .before .before .before .before .before .before .before .letter .ensures in
+    let n = c .before .before .before .before .before .before .before .before .before .before .before .before .before .before .before
+    .before .before .before .count .ensures in
+    let x = c .before .before .before .before .before .before .before .before .before .before
+    .before .before .before .before .pattern .ensures in
+    let y = c .before .before .before .before .before .before .before .before .before .before .pattern2 .ensures in
+    let z = c .before .before .before .before .before .before .pattern3 .ensures in (
+      stored-as (simp append-assoc)
+          (stored-more (stored-more (stored-more (stored-more (stored-more a n) x) y) z) (c .before .before .newline .ensures)),
+      omega (arith, few, length-hex (m .x), length-hex (m .y), length-hex (m .z)),
+    )
 
 pub put-move-spec : {M : Type 1} → statement M
 put-move-spec =

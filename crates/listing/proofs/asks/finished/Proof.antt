@@ -1,6 +1,7 @@
 -- `listing::asks::finished` meets its contract. Where nothing is kept, the bytes are the whole line.
-use mathlib.Core.Path.{_≡_, ap, sym, _∙_}
+use mathlib.Core.Path.{ap, sym, _∙_}
 use borrow.Author.Needs.{needs}
+use Rattle.lines.specs.Carry.{held}
 use Rattle.listing.specs.Asks.{asks}
 use Rattle.listing.proofs.Asking.{asks-now}
 use Rattle.listing.proofs.asks.finished.Statement.{statement}
@@ -24,8 +25,7 @@ returns c = c .asked .ensures ∙ ap asks (c .before .more .ensures)
 returns-2 : tie.Need-returns-2
 returns-2 c =
     c .record-of .ensures
-    ∙ sym (asks-now (c .before .before .before .before .args .c .overlong) (c .before .before .before .before .args .c .len)
-    (c .before .before .before .before .args .c .bytes) (c .before .before .before .before .args .s .now)
+    ∙ sym (asks-now (held (c .before .before .before .before .args .c)) (c .before .before .before .before .args .s .now)
     (sym (c .before .before .has-begun .ensures) ∙ c .before .if1 .left))
 
 pub finished-spec : {M : Type 1} → statement M

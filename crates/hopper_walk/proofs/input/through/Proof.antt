@@ -1,21 +1,24 @@
--- `hopper_walk::output::printed` is safe and ends: the turns left fall, and the buffer keeps its length.
+-- `hopper_walk::input::through` is safe and ends: the turns left fall, and the buffer keeps its length.
 use mathlib.Core.Path.{_≡_}
 use lib.ListN.{length}
 use borrow.Author.Needs.{needs}
-use Rattle.hopper_walk.proofs.output.printed.Statement.{statement}
-use Rattle.hopper_walk.proofs.output.printed.Tie as tie
+use Rattle.hopper_walk.proofs.input.through.Statement.{statement}
+use Rattle.hopper_walk.proofs.input.through.Tie as tie
 
 abbrev Inv-loop : tie.InvT-loop
-Inv-loop buf₀ at₀ open₀ r₀ turns₀ buf at «open» r turns = length buf ≡ length buf₀
+Inv-loop buf₀ part p₀ from₀ at₀ open₀ turns₀ buf p from at «open» turns = length buf ≡ length buf₀
 
 abbrev μ-loop : tie.MeasureT-loop
-μ-loop buf₀ at₀ open₀ r₀ turns₀ buf at «open» r turns = turns
+μ-loop buf₀ part p₀ from₀ at₀ open₀ turns₀ buf p from at «open» turns = turns
 
 loop-holds : tie.Need-loop-holds Inv-loop μ-loop
 loop-holds c = search needs
 
-fill-requires : tie.Need-fill-requires Inv-loop μ-loop
-fill-requires c κs = search needs
+put-requires : tie.Need-put-requires Inv-loop μ-loop
+put-requires c κs = search needs
+
+is-through-requires : tie.Need-is-through-requires Inv-loop μ-loop
+is-through-requires c κs = search needs
 
 loop-less : tie.Need-loop-less Inv-loop μ-loop
 loop-less c = search needs
@@ -41,14 +44,15 @@ same-length c = search needs
 returns : tie.Need-returns Inv-loop μ-loop
 returns c = search needs
 
-pub printed-spec : {M : Type 1} → statement M
-printed-spec =
+pub through-spec : {M : Type 1} → statement M
+through-spec =
     tie.close
     (tie.spec
     Inv-loop
     μ-loop
     loop-holds
-    fill-requires
+    put-requires
+    is-through-requires
     loop-less
     loop-again
     front-requires
