@@ -18,31 +18,27 @@ use Rattle.lines.proofs.Stores.{stored-stands}
 use Rattle.listing.specs.Listing.{AllPrint, listingVersion, Listing}
 use Rattle.listing.specs.Asks.{asks}
 use Rattle.listing.specs.Block.{textOf}
-use Rattle.listing.specs.Printer.{lastRun, Ends, Call, Through, Feeds, FeedsAll, PrintsSoFar, PrintsParts}
+use Rattle.listing.specs.Printer.{Takes, lastRun, Ends, Call, Through, Feeds, FeedsAll, PrintsSoFar, PrintsParts}
 use Rattle.listing.specs.declared.printer.Printer.{Printer}
 use Rattle.listing.specs.declared.printer.Reached.{Reached}
 use Rattle.listing.proofs.Asking.{asks-whole, asked-lines}
 use Rattle.listing.proofs.Blocks.{done-text}
-use Rattle.listing.proofs.Feeding.{both-print, run-both}
+use Rattle.listing.proofs.Feeding.{both-print, takes-more}
 
 -- ---- a part
 -- what is printed while lines are finished: what was left, and then what each of them prints; nothing is left, and of the line that has
 -- begun what is to be kept
 pub record Answers (run : Run) (p : Printer) (text : List ℕ) (r : Printer) : Type 0 where
-  pub kept : held (r .carry) ≡ run .begun
+  pub takes : Takes run r
   pub done : r .rest .done ≡ true
-  pub blocks : List ℕ
-  pub print : AllPrint (map asks (run .finished)) blocks
-  pub joins : text ≡ textOf (p .rest) ++ blocks
+  pub joins : text ≡ textOf (p .rest) ++ takes .blocks
 
 nothing-more : (p r : Printer) (text : List ℕ) → p ≡ r → text ≡ [] → p .rest .done ≡ true
     → Answers (record { finished = []; begun = held (p .carry) }) p text r
 nothing-more p r text same none done =
     record {
-      kept = ap (λ (x : Printer). held (x .carry)) (sym same);
+      takes = record { kept = ap (λ (x : Printer). held (x .carry)) (sym same); blocks = []; print = refl };
       done = subst (λ (x : Printer). x .rest .done ≡ true) same done;
-      blocks = [];
-      print = refl;
       joins = none ∙ sym (ap (λ (u : List ℕ). u ++ []) (done-text (p .rest) done));
     }
 
@@ -62,52 +58,47 @@ part-answered zero part p from text r x =
 part-answered (suc calls) part p from text r x =
     let q = x .0 in
     let u = x .4 .puts in
+    let v = u .reads in
+    let w = v .takes in
     let later = part-answered calls part (q .printer) (q .from) (x .2) r (x .5) in
-    let both = run-both (held (p .carry)) (u .bytes) (drop (q .from) part) (held (q .printer .carry)) (u .kept) in
-    subst (λ (s : List ℕ). Answers (runFrom (held (p .carry)) s) p text r) (sym (u .cut))
+    let l = later .takes in
+    subst (λ (s : List ℕ). Answers (runFrom (held (p .carry)) s) p text r) (sym (v .cut))
     (record {
-      kept = later .kept ∙ sym (both .begun);
+      takes = takes-more (held (p .carry)) (v .bytes) (drop (q .from) part) (q .printer) r w l;
       done = later .done;
-      blocks = u .blocks ++ later .blocks;
-      print = both .print (u .blocks) (later .blocks) (u .print) (later .print);
       joins =
           x .3
           ∙ ap (λ (s : List ℕ). s ++ x .2) (call-stores (x .4))
           ∙ ap (λ (s : List ℕ). u .stored .text ++ s) (later .joins)
-          ∙ sym (append-assoc (u .stored .text) (textOf (q .printer .rest)) (later .blocks))
-          ∙ ap (λ (s : List ℕ). s ++ later .blocks) (sym (u .stored .joins))
-          ∙ append-assoc (textOf (p .rest)) (u .blocks) (later .blocks);
+          ∙ sym (append-assoc (u .stored .text) (textOf (q .printer .rest)) (l .blocks))
+          ∙ ap (λ (s : List ℕ). s ++ l .blocks) (sym (u .stored .joins))
+          ∙ append-assoc (textOf (p .rest)) (w .blocks) (l .blocks);
     })
 
 -- where nothing was left to print
-pub answered-alone : {run : Run} {p r : Printer} {text : List ℕ} → p .rest .done ≡ true → (x : Answers run p text r) → text ≡ x .blocks
-answered-alone {p = p} done x = x .joins ∙ ap (λ (u : List ℕ). u ++ x .blocks) (done-text (p .rest) done)
+pub answered-alone : {run : Run} {p r : Printer} {text : List ℕ} → p .rest .done ≡ true → (x : Answers run p text r)
+    → text ≡ x .takes .blocks
+answered-alone {p = p} done x = x .joins ∙ ap (λ (u : List ℕ). u ++ x .takes .blocks) (done-text (p .rest) done)
 
 -- ---- all parts, while more may come
-pub record AllAnswered (run : Run) (text : List ℕ) (r : Printer) : Type 0 where
-  pub kept : held (r .carry) ≡ run .begun
-  pub done : r .rest .done ≡ true
-  pub print : AllPrint (map asks (run .finished)) text
-
 pub parts-answered : (parts : List (List ℕ)) (p : Printer) (text : List ℕ) (r : Printer) → p .rest .done ≡ true → FeedsAll parts p text r
-    → AllAnswered (runFrom (held (p .carry)) (joined parts)) text r
+    → Answers (runFrom (held (p .carry)) (joined parts)) p text r
 unfolding joined runFrom
-parts-answered [] p text r done x =
-    let n = nothing-more p r text (x .0) (x .1) done in
-    record { kept = n .kept; done = n .done; print = x .1 }
+parts-answered [] p text r done x = nothing-more p r text (x .0) (x .1) done
 parts-answered (part ∷ parts) p text r done x =
     let q = x .0 in
     let here = part-answered (x .4 .calls) part p 0 (x .1) q (x .4 .through) in
     let later = parts-answered parts q (x .2) r (here .done) (x .5) in
-    let both = run-both (held (p .carry)) part (joined parts) (held (q .carry)) (here .kept) in
-    let first = subst (λ (t : List ℕ). AllPrint (map asks (runFrom (held (p .carry)) part .finished)) t) (sym (answered-alone done here))
-    (here .print) in
+    let w = here .takes in
+    let l = later .takes in
     record {
-      kept = later .kept ∙ sym (both .begun);
+      takes = takes-more (held (p .carry)) part (joined parts) q r w l;
       done = later .done;
-      print =
-          subst (λ (t : List ℕ). AllPrint (map asks (runFrom (held (p .carry)) (part ++ joined parts) .finished)) t) (sym (x .3))
-          (both .print (x .1) (x .2) first (later .print));
+      joins =
+          x .3
+          ∙ ap (λ (s : List ℕ). s ++ x .2) (here .joins)
+          ∙ ap (λ (s : List ℕ). (textOf (p .rest) ++ w .blocks) ++ s) (answered-alone (here .done) later)
+          ∙ append-assoc (textOf (p .rest)) (w .blocks) (l .blocks);
     }
 
 -- what is printed for parts, while more may come, is what their finished lines print; of the line that has begun is kept what is to be
@@ -123,13 +114,14 @@ answered-so-far {parts} {text} {r} x =
     let s = joined parts in
     let all = parts-answered parts (x .start) (x .blocks) r (x .unread .idle) (x .feeds) in
     let start : runFrom (held (x .start .carry)) s ≡ runFrom fresh s = ap (λ (h : Held). runFrom h s) (x .unread .nothing) in
+    let alone = answered-alone (x .unread .idle) all in
     record {
-      blocks = x .blocks;
-      headed = x .headed;
+      blocks = all .takes .blocks;
+      headed = x .headed ∙ ap (λ (t : List ℕ). written (Header listingVersion) ++ t) alone;
       print =
-          subst (λ (as' : List Asked). AllPrint as' (x .blocks)) (ap (λ (run : Run). map asks (run .finished)) start ∙ asked-lines s)
-          (all .print);
-      kept = all .kept ∙ ap (λ (run : Run). run .begun) (start ∙ run-lines s);
+          subst (λ (as' : List Asked). AllPrint as' (all .takes .blocks))
+          (ap (λ (run : Run). map asks (run .finished)) start ∙ asked-lines s) (all .takes .print);
+      kept = all .takes .kept ∙ ap (λ (run : Run). run .begun) (start ∙ run-lines s);
       done = all .done;
     }
 
@@ -162,14 +154,14 @@ last-prints (b ∷ l) h ls t u is x y =
 end-answered : (p r s : Printer) (text : List ℕ) → p .rest .done ≡ true → Ends p r → Feeds [] r text s
     → AllPrint (map asks (choose (hasBegun (held (p .carry))) (held (p .carry) ∷ []) [])) text
 unfolding lastRun runFrom
-end-answered p r s text done e x =
+end-answered p r s text done (e, left) x =
     let run : Bool → Run =
     λ d. choose d (record { finished = choose (hasBegun (held (p .carry))) (held (p .carry) ∷ []) []; begun = fresh })
     (record { finished = []; begun = held (p .carry) }) in
     let a = part-answered (x .calls) [] r 0 text s (x .through) in
-    let none : a .blocks ≡ [] = a .print in
+    let none : a .takes .blocks ≡ [] = a .takes .print in
     let all : text ≡ e .blocks =
-    a .joins ∙ ap (λ (u : List ℕ). textOf (r .rest) ++ u) none ∙ append-nil (textOf (r .rest)) ∙ e .left
+    a .joins ∙ ap (λ (u : List ℕ). textOf (r .rest) ++ u) none ∙ append-nil (textOf (r .rest)) ∙ left
     ∙ ap (λ (u : List ℕ). u ++ e .blocks) (done-text (p .rest) done) in
     subst (AllPrint (map asks (choose (hasBegun (held (p .carry))) (held (p .carry) ∷ []) []))) (sym all)
     (subst (λ (d : Bool). AllPrint (map asks (run d .finished)) (e .blocks)) done (e .print))

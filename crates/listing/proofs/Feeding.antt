@@ -15,12 +15,12 @@ use Rattle.lines.specs.Carry.{Held, held, fresh, hasBegun, keep, Run, runFrom}
 use Rattle.lines.specs.Fields.{newline, span, fieldEnd}
 use Rattle.lines.specs.Lines.{hasRoom}
 use Rattle.lines.specs.declared.record.Asked.{Asked}
-use Rattle.lines.proofs.Cutting.{run-joined, run-some, cut-at-newline, span-at-most, nothing-kept}
+use Rattle.lines.proofs.Cutting.{goOn, run-joined, run-some, cut-at-newline, span-at-most, nothing-kept}
 use Rattle.lines.proofs.Stores.{stored-more, stored-length}
 use Rattle.listing.specs.Listing.{Prints, AllPrint}
 use Rattle.listing.specs.Asks.{asks}
 use Rattle.listing.specs.Block.{textOf, Part}
-use Rattle.listing.specs.Printer.{Takes, Reads, Puts, isThrough, lastRun, Ends}
+use Rattle.listing.specs.Printer.{Takes, Leaves, Puts, isThrough, lastRun, Ends}
 use Rattle.listing.specs.declared.printer.Printer.{Printer}
 use Rattle.listing.specs.declared.printer.Reached.{Reached}
 use Rattle.listing.proofs.Asking.{line-asks}
@@ -35,25 +35,24 @@ both-print (x ∷ as') bs t u a b =
 pub one-prints : (a : Asked) (t : List ℕ) → Prints a t → AllPrint (a ∷ []) t
 one-prints a t p = (t, [], sym (append-nil t), p, refl)
 
--- bytes behind bytes: what is kept of the first ones is where the second ones go on
-pub record Both (h : Held) (a b : List ℕ) (k : Held) : Type 0 where
-  pub begun : runFrom h (a ++ b) .begun ≡ runFrom k b .begun
-  pub print : (t u : List ℕ) → AllPrint (map asks (runFrom h a .finished)) t → AllPrint (map asks (runFrom k b .finished)) u
-      → AllPrint (map asks (runFrom h (a ++ b) .finished)) (t ++ u)
-
-pub run-both : (h : Held) (a b : List ℕ) (k : Held) → k ≡ runFrom h a .begun → Both h a b k
-run-both h a b k is =
-    let run = run-joined a b h in
-    let again : runFrom (runFrom h a .begun) b ≡ runFrom k b = ap (λ (x : Held). runFrom x b) (sym is) in
-    let lines : map asks (runFrom h (a ++ b) .finished) ≡ map asks (runFrom h a .finished) ++ map asks (runFrom k b .finished) =
-    ap (λ (r : Run). map asks (r .finished)) run
+-- bytes behind bytes: the second ones go on with what is kept of the first
+abbrev pub takes-more : (h : Held) (a b : List ℕ) (q r : Printer) → Takes (runFrom h a) q → Takes (runFrom (held (q .carry)) b) r
+    → Takes (runFrom h (a ++ b)) r
+takes-more h a b q r x y =
+    let run : runFrom h (a ++ b) ≡ goOn (runFrom h a) b = run-joined a b h in
+    let again : runFrom (runFrom h a .begun) b ≡ runFrom (held (q .carry)) b = ap (λ (k : Held). runFrom k b) (sym (x .kept)) in
+    let lines : map asks (runFrom h (a ++ b) .finished)
+    ≡ map asks (runFrom h a .finished) ++ map asks (runFrom (held (q .carry)) b .finished) =
+    ap (λ (s : Run). map asks (s .finished)) run
     ∙ map-app asks (runFrom h a .finished) (runFrom (runFrom h a .begun) b .finished)
-    ∙ ap (λ (r : Run). map asks (runFrom h a .finished) ++ map asks (r .finished)) again in
+    ∙ ap (λ (s : Run). map asks (runFrom h a .finished) ++ map asks (s .finished)) again in
     record {
-      begun = ap (λ (r : Run). r .begun) run ∙ ap (λ (r : Run). r .begun) again;
-      print = λ t u x y.
-          subst (λ (as' : List Asked). AllPrint as' (t ++ u)) (sym lines)
-          (both-print (map asks (runFrom h a .finished)) (map asks (runFrom k b .finished)) t u x y);
+      kept = y .kept ∙ sym (ap (λ (s : Run). s .begun) run ∙ ap (λ (s : Run). s .begun) again);
+      blocks = x .blocks ++ y .blocks;
+      print =
+          subst (λ (as' : List Asked). AllPrint as' (x .blocks ++ y .blocks)) (sym lines)
+          (both-print (map asks (runFrom h a .finished)) (map asks (runFrom (held (q .carry)) b .finished)) (x .blocks) (y .blocks)
+          (x .print) (y .print));
     }
 
 -- ---- reading
@@ -62,10 +61,6 @@ rest-run : (h : Held) (s : List ℕ) → span newline s ≡ length s → 0 < len
 unfolding runFrom
 rest-run h [] free some = absurd (omega arith)
 rest-run h (x ∷ s) free some = ap (runFrom h) (sym (append-nil (x ∷ s))) ∙ run-some x s [] h free
-
--- nothing is read
-pub takes-nothing : (p : Printer) → Takes (record { finished = []; begun = held (p .carry) }) p p
-takes-nothing p = record { kept = refl; blocks = []; print = refl; left = sym (append-nil (textOf (p .rest))) }
 
 -- a line goes on from a place on, and a newline comes, or the part ends
 module _ (part : List ℕ) (p : Printer) (from end : ℕ) (q : Reached) (is : end ≡ fieldEnd newline part from) (inside : from < length part)
@@ -97,27 +92,29 @@ module _ (part : List ℕ) (p : Printer) (from end : ℕ) (q : Reached) (is : en
 
     pub reads-line : p .rest .done ≡ true → length (held (p .carry) .text) ≤ 128 → end < length part → q .from ≡ end + 1
         → held (q .printer .carry) ≡ fresh
-        → Prints (asks (keep (held (p .carry)) (take (end - from) here))) (textOf (q .printer .rest)) → Reads part p from q
+        → Prints (asks (keep (held (p .carry)) (take (end - from) here))) (textOf (q .printer .rest)) → Leaves part p from q
     reads-line done short ends to empty prints =
         let was = line-read ends to in
         let run = line-asks before-newline (held (p .carry)) (was .2) short in
-        record {
-          bytes = before-newline ++ (newline ∷ []);
-          cut = was .0;
-          place = was .1;
-          takes = record {
-            kept = empty ∙ sym (run .1);
-            blocks = textOf (q .printer .rest);
-            print =
-                subst (λ (as' : List Asked). AllPrint as' (textOf (q .printer .rest))) (sym (run .0))
-                (one-prints (asks (keep (held (p .carry)) before-newline)) (textOf (q .printer .rest))
-                (subst (λ (k : ℕ). Prints (asks (keep (held (p .carry)) (take k here))) (textOf (q .printer .rest))) counted prints));
-            left = ap (λ (u : List ℕ). u ++ textOf (q .printer .rest)) (sym (done-text (p .rest) done));
-          };
-        }
+        let text = textOf (q .printer .rest) in (
+          record {
+            bytes = before-newline ++ (newline ∷ []);
+            cut = was .0;
+            place = was .1;
+            takes = record {
+              kept = empty ∙ sym (run .1);
+              blocks = text;
+              print =
+                  subst (λ (as' : List Asked). AllPrint as' text) (sym (run .0))
+                  (one-prints (asks (keep (held (p .carry)) before-newline)) text
+                  (subst (λ (k : ℕ). Prints (asks (keep (held (p .carry)) (take k here))) text) counted prints));
+            };
+          },
+          ap (λ (u : List ℕ). u ++ text) (sym (done-text (p .rest) done)),
+        )
 
     pub reads-rest : length part ≤ end → q .from ≡ length part → q .printer .rest ≡ p .rest
-        → held (q .printer .carry) ≡ keep (held (p .carry)) (take (length part - from) here) → Reads part p from q
+        → held (q .printer .carry) ≡ keep (held (p .carry)) (take (length part - from) here) → Leaves part p from q
     reads-rest past to same kept =
         let long : length here ≡ length part - from = length-drop from part in
         let free : span newline here ≡ length here = le-antisymm (span-at-most here) (omega arith) in
@@ -125,18 +122,19 @@ module _ (part : List ℕ) (p : Printer) (from end : ℕ) (q : Reached) (is : en
         let run = rest-run (held (p .carry)) here free some in
         let all : take (length part - from) here ≡ here = take-all (length part - from) here (omega arith) in
         let used : length part ≤ q .from = omega arith in
-        let none : drop (q .from) part ≡ [] = drop-of-length-le part used in
-        record {
-          bytes = here;
-          cut = sym (append-nil here) ∙ ap (λ (s : List ℕ). here ++ s) (sym none);
-          place = omega arith;
-          takes = record {
-            kept = kept ∙ ap (keep (held (p .carry))) all ∙ sym (ap (λ (r : Run). r .begun) run);
-            blocks = [];
-            print = subst (λ (r : Run). AllPrint (map asks (r .finished)) []) (sym run) refl;
-            left = ap textOf same ∙ sym (append-nil (textOf (p .rest)));
-          };
-        }
+        let none : drop (q .from) part ≡ [] = drop-of-length-le part used in (
+          record {
+            bytes = here;
+            cut = sym (append-nil here) ∙ ap (λ (s : List ℕ). here ++ s) (sym none);
+            place = omega arith;
+            takes = record {
+              kept = kept ∙ ap (keep (held (p .carry))) all ∙ sym (ap (λ (r : Run). r .begun) run);
+              blocks = [];
+              print = subst (λ (r : Run). AllPrint (map asks (r .finished)) []) (sym run) refl;
+            };
+          },
+          ap textOf same ∙ sym (append-nil (textOf (p .rest))),
+        )
 
 -- ---- the end of the input
 module _ (p : Printer) where
@@ -152,24 +150,27 @@ module _ (p : Printer) where
       ap (λ (x : Bool). choose x (last b) unfinished) (sym e)
       ∙ ap (λ (x : Bool). choose (p .rest .done) (last x) unfinished) (sym f)
 
+  -- told of a run that is the last
+  abbrev Takes-all : Run → Printer → Type 0
+  Takes-all run r = (x : Takes run r) × (textOf (r .rest) ≡ textOf (p .rest) ++ x .blocks)
+
   pub ends-later : p .rest .done ≡ false → Ends p p
-  ends-later going = subst (λ (r : Run). Takes r p p) (last-is false (hasBegun (held (p .carry))) going refl) (takes-nothing p)
+  ends-later going =
+      subst (λ (run : Run). Takes-all run p) (last-is false (hasBegun (held (p .carry))) going refl)
+      (record { kept = refl; blocks = []; print = refl }, sym (append-nil (textOf (p .rest))))
 
   pub ends-nothing : p .rest .done ≡ true → hasBegun (held (p .carry)) ≡ false → Ends p p
   ends-nothing done none =
-      subst (λ (r : Run). Takes r p p) (last-is true false done none)
-      (record { kept = nothing-kept (held (p .carry)) none; blocks = []; print = refl; left = sym (append-nil (textOf (p .rest))) })
+      subst (λ (run : Run). Takes-all run p) (last-is true false done none)
+      (record { kept = nothing-kept (held (p .carry)) none; blocks = []; print = refl }, sym (append-nil (textOf (p .rest))))
 
   pub ends-line : (r : Printer) → p .rest .done ≡ true → hasBegun (held (p .carry)) ≡ true → held (r .carry) ≡ fresh
       → Prints (asks (held (p .carry))) (textOf (r .rest)) → Ends p r
   ends-line r done begun empty prints =
-      subst (λ (x : Run). Takes x p r) (last-is true true done begun)
-      (record {
-        kept = empty;
-        blocks = textOf (r .rest);
-        print = one-prints (asks (held (p .carry))) (textOf (r .rest)) prints;
-        left = ap (λ (u : List ℕ). u ++ textOf (r .rest)) (sym (done-text (p .rest) done));
-      })
+      subst (λ (run : Run). Takes-all run r) (last-is true true done begun) (
+        record { kept = empty; blocks = textOf (r .rest); print = one-prints (asks (held (p .carry))) (textOf (r .rest)) prints },
+        ap (λ (u : List ℕ). u ++ textOf (r .rest)) (sym (done-text (p .rest) done)),
+      )
 
 -- ---- storing
 -- of what is left to print a part is stored, and nothing is read
@@ -187,12 +188,12 @@ pub puts-left : {part before after : List ℕ} (q r : Reached) → Fills before 
 unfolding runFrom
 puts-left {part} q r x =
     record {
-      bytes = [];
-      cut = ap (λ (k : ℕ). drop k part) (sym (x .place));
-      place = x .place ∙ sym (add-zero (q .from));
-      kept = ap held (x .same);
-      blocks = [];
-      print = refl;
+      reads = record {
+        bytes = [];
+        cut = ap (λ (k : ℕ). drop k part) (sym (x .place));
+        place = x .place ∙ sym (add-zero (q .from));
+        takes = record { kept = ap held (x .same); blocks = []; print = refl };
+      };
       stored = record {
         text = x .stored .text;
         stored = x .stored .stored;
@@ -202,20 +203,20 @@ puts-left {part} q r x =
     }
 
 -- a line is read first
-pub puts-line : {part before after : List ℕ} {p : Printer} {from : ℕ} (q r : Reached) → Reads part p from q → Fills before q after r
+pub puts-line : {part before after : List ℕ} {p : Printer} {from : ℕ} (q r : Reached) → Leaves part p from q → Fills before q after r
     → Puts part before p from (q .at) after r
-puts-line {part} q r x y =
+puts-line {part} q r (x, left) y =
     record {
-      bytes = x .bytes;
-      cut = x .cut ∙ ap (λ (k : ℕ). x .bytes ++ drop k part) (sym (y .place));
-      place = y .place ∙ x .place;
-      kept = ap held (y .same) ∙ x .takes .kept;
-      blocks = x .takes .blocks;
-      print = x .takes .print;
+      reads = record {
+        bytes = x .bytes;
+        cut = x .cut ∙ ap (λ (k : ℕ). x .bytes ++ drop k part) (sym (y .place));
+        place = y .place ∙ x .place;
+        takes = record { kept = ap held (y .same) ∙ x .takes .kept; blocks = x .takes .blocks; print = x .takes .print };
+      };
       stored = record {
         text = y .stored .text;
         stored = y .stored .stored;
-        joins = sym (x .takes .left) ∙ y .stored .joins;
+        joins = sym left ∙ y .stored .joins;
         within = y .stored .within;
       };
     }
@@ -224,24 +225,27 @@ puts-line {part} q r x y =
 pub puts-more : {part before between after : List ℕ} {p : Printer} {from at : ℕ} (q r : Reached) → Puts part before p from at between q
     → Puts part between (q .printer) (q .from) (q .at) after r → Puts part before p from at after r
 puts-more {part} {p = p} q r x y =
-    let both = run-both (held (p .carry)) (x .bytes) (y .bytes) (held (q .printer .carry)) (x .kept) in
+    let a = x .reads in
+    let b = y .reads in
+    let s = a .takes .blocks in
+    let t = b .takes .blocks in
     record {
-      bytes = x .bytes ++ y .bytes;
-      cut =
-          x .cut
-          ∙ ap (λ (s : List ℕ). x .bytes ++ s) (y .cut)
-          ∙ sym (append-assoc (x .bytes) (y .bytes) (drop (r .from) part));
-      place = omega (arith, x .place, y .place, length-append (x .bytes) (y .bytes));
-      kept = y .kept ∙ sym (both .begun);
-      blocks = x .blocks ++ y .blocks;
-      print = both .print (x .blocks) (y .blocks) (x .print) (y .print);
+      reads = record {
+        bytes = a .bytes ++ b .bytes;
+        cut =
+            a .cut
+            ∙ ap (λ (u : List ℕ). a .bytes ++ u) (b .cut)
+            ∙ sym (append-assoc (a .bytes) (b .bytes) (drop (r .from) part));
+        place = omega (arith, a .place, b .place, length-append (a .bytes) (b .bytes));
+        takes = takes-more (held (p .carry)) (a .bytes) (b .bytes) (q .printer) (r .printer) (a .takes) (b .takes);
+      };
       stored = record {
         text = x .stored .text ++ y .stored .text;
         stored = stored-more (x .stored .stored) (y .stored .stored);
         joins =
-            sym (append-assoc (textOf (p .rest)) (x .blocks) (y .blocks))
-            ∙ ap (λ (u : List ℕ). u ++ y .blocks) (x .stored .joins)
-            ∙ append-assoc (x .stored .text) (textOf (q .printer .rest)) (y .blocks)
+            sym (append-assoc (textOf (p .rest)) s t)
+            ∙ ap (λ (u : List ℕ). u ++ t) (x .stored .joins)
+            ∙ append-assoc (x .stored .text) (textOf (q .printer .rest)) t
             ∙ ap (λ (u : List ℕ). x .stored .text ++ u) (y .stored .joins)
             ∙ sym (append-assoc (x .stored .text) (y .stored .text) (textOf (r .printer .rest)));
         within = λ h. y .stored .within (x .stored .within h);
@@ -286,16 +290,17 @@ pub used-up-gives-back : {part before after : List ℕ} {p : Printer} {from at :
     → (q .from ≡ from) × (q .at ≡ at) × (after ≡ before) × (held (q .printer .carry) ≡ held (p .carry)) × (textOf (q .printer .rest) ≡ [])
 unfolding runFrom
 used-up-gives-back {part} {before} {after} {p} {from} {at} q x used done =
+    let a = x .reads in
     let s = x .stored in
-    let none : x .bytes ≡ [] = none-first (x .bytes) (drop (q .from) part) (sym (x .cut) ∙ drop-of-length-le part used) in
-    let no-blocks : x .blocks ≡ [] =
-    subst (λ (b : List ℕ). AllPrint (map asks (runFrom (held (p .carry)) b .finished)) (x .blocks)) none (x .print) in
+    let none : a .bytes ≡ [] = none-first (a .bytes) (drop (q .from) part) (sym (a .cut) ∙ drop-of-length-le part used) in
+    let no-blocks : a .takes .blocks ≡ [] =
+    subst (λ (b : List ℕ). AllPrint (map asks (runFrom (held (p .carry)) b .finished)) (a .takes .blocks)) none (a .takes .print) in
     let all : s .text ++ textOf (q .printer .rest) ≡ [] =
-    sym (s .joins) ∙ ap (λ (u : List ℕ). u ++ x .blocks) (done-text (p .rest) done) ∙ no-blocks in
+    sym (s .joins) ∙ ap (λ (u : List ℕ). u ++ a .takes .blocks) (done-text (p .rest) done) ∙ no-blocks in
     let no-text : s .text ≡ [] = none-first (s .text) (textOf (q .printer .rest)) all in (
-      x .place ∙ ap (λ (b : List ℕ). from + length b) none ∙ add-zero from,
+      a .place ∙ ap (λ (b : List ℕ). from + length b) none ∙ add-zero from,
       s .stored .place ∙ ap (λ (b : List ℕ). at + length b) no-text ∙ add-zero at,
       s .stored .bytes ∙ ap (sets before at) no-text,
-      x .kept ∙ ap (λ (b : List ℕ). runFrom (held (p .carry)) b .begun) none,
+      a .takes .kept ∙ ap (λ (b : List ℕ). runFrom (held (p .carry)) b .begun) none,
       none-second (s .text) (textOf (q .printer .rest)) all,
     )

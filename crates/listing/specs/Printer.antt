@@ -23,35 +23,33 @@ pub record Fresh (p : Printer) : Type 0 where
   pub nothing : held (p .carry) ≡ fresh
   pub idle : p .rest .done ≡ true
 
--- lines are finished and one has begun: what the finished ones print follows what was left to print
-pub record Takes (run : Run) (p r : Printer) : Type 0 where
+-- lines are finished and one has begun: what is kept of it, and what the finished ones print
+pub record Takes (run : Run) (r : Printer) : Type 0 where
   pub kept : held (r .carry) ≡ run .begun
   pub blocks : List ℕ
   pub print : AllPrint (map asks (run .finished)) blocks
-  pub left : textOf (r .rest) ≡ textOf (p .rest) ++ blocks
 
 -- some bytes of a part are read, from a place on
 pub record Reads (part : List ℕ) (p : Printer) (from : ℕ) (q : Reached) : Type 0 where
   pub bytes : List ℕ
   pub cut : drop from part ≡ bytes ++ drop (q .from) part
   pub place : q .from ≡ from + length bytes
-  pub takes : Takes (runFrom (held (p .carry)) bytes) p (q .printer)
+  pub takes : Takes (runFrom (held (p .carry)) bytes) (q .printer)
 
--- the same, and of what there is then to print a part is stored
+-- and what their lines print follows what was left to print: nothing of it is stored
+abbrev pub Leaves : List ℕ → Printer → ℕ → Reached → Type 0
+Leaves part p from q = (x : Reads part p from q) × (textOf (q .printer .rest) ≡ textOf (p .rest) ++ x .takes .blocks)
+
+-- or a part of it is stored
 pub record Puts (part before : List ℕ) (p : Printer) (from at : ℕ) (after : List ℕ) (q : Reached) : Type 0 where
-  pub bytes : List ℕ
-  pub cut : drop from part ≡ bytes ++ drop (q .from) part
-  pub place : q .from ≡ from + length bytes
-  pub kept : held (q .printer .carry) ≡ runFrom (held (p .carry)) bytes .begun
-  pub blocks : List ℕ
-  pub print : AllPrint (map asks (runFrom (held (p .carry)) bytes .finished)) blocks
-  pub stored : Part before at (textOf (p .rest) ++ blocks) (q .at) (textOf (q .printer .rest)) after
+  pub reads : Reads part p from q
+  pub stored : Part before at (textOf (p .rest) ++ reads .takes .blocks) (q .at) (textOf (q .printer .rest)) after
 
 -- whether a part is used up and nothing is left to print
 abbrev pub isThrough : List ℕ → Reached → Bool
 isThrough part q = q .printer .rest .done && leb (length part) (q .from)
 
--- at the end of the input the unfinished line is a line, if one has begun. While a block is not done, all stays
+-- "at its newline or at the input's end": there the unfinished line is a line, if one has begun. While a block is not done, all stays
 unfoldable pub lastRun : Printer → Run
 lastRun p =
     choose (p .rest .done)
@@ -59,7 +57,7 @@ lastRun p =
     (record { finished = []; begun = held (p .carry) })
 
 abbrev pub Ends : Printer → Printer → Type 0
-Ends p r = Takes (lastRun p) p r
+Ends p r = (x : Takes (lastRun p) r) × (textOf (r .rest) ≡ textOf (p .rest) ++ x .blocks)
 
 -- ---- a run of calls
 -- one call, into any buffer: the text that stands there behind the place from which it was to be stored

@@ -13,7 +13,7 @@ ghost use Prim.Native.Nat.{_<_};
 ghost use lib.Dec.{leb};
 ghost use lib.ListN.{length};
 ghost use Rattle.lines.specs.Lines.{hasRoom};
-ghost use Rattle.listing.specs.Printer.{Fresh, Reads, Puts, Ends, isThrough};
+ghost use Rattle.listing.specs.Printer.{Fresh, Leaves, Puts, Ends, isThrough};
 
 // What is kept of the unfinished line, and what is left of the block that is being printed.
 pub struct Printer {
@@ -41,7 +41,7 @@ pub fn fresh() -> Printer
 // A line goes on in a part, from a place on: to its newline, which begins its block, or to the end of the part, which keeps it.
 fn line(c: Carry, rest: Rest, part: &[u8], from: usize, at: usize) -> Reached
     requires { ⌜ (rest .done ≡ true) × (from < length (now part)) ⌝ }
-    ensures { λ r. ⌜ Reads (now (part .entry)) (record { carry = c; rest = rest }) from r × (r .at ≡ at) × (from < r .from) ⌝ }
+    ensures { λ r. ⌜ Leaves (now (part .entry)) (record { carry = c; rest = rest }) from r × (r .at ≡ at) × (from < r .from) ⌝ }
 {
     let n = part.len();
     let end = fields::field_end(part, from, b'\n');

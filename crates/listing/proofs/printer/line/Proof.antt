@@ -26,7 +26,10 @@ part-finished-start : tie.Need-part-finished-start
 part-finished-start c = search needs
 
 part-finished-end : tie.Need-part-finished-end
-part-finished-end c = search needs
+part-finished-end c =
+    let a = c .before .before .before .before .args in
+    let ends : c .before .before .field-end .result < length (a .part .now) = c .before .if1 .taken in
+    search needs
 
 finished-requires : tie.Need-finished-requires
 finished-requires c κs = search needs

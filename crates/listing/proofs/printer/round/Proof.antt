@@ -26,7 +26,7 @@ returns c =
     let read = subst (λ (k : ℕ). Puts (a .part .now) (a .buf .now) (a .q .printer) (a .q .from) k (a .buf .now) r) (x .1)
     (puts-line r r (x .0) (fills-nothing (a .buf .now) r)) in
     let nearer : a .q .from < r .from = x .2 in
-    (puts-more r (c .before .before .advanced .result) read (y .0), omega (arith, y .0 .place), y .1)
+    (puts-more r (c .before .before .advanced .result) read (y .0), omega (arith, y .0 .reads .place), y .1)
 
 pub round-spec : {M : Type 1} → statement M
 round-spec = tie.close (tie.spec line-requires advanced-requires same-length returns)
