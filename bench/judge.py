@@ -1,7 +1,7 @@
 #!/usr/bin/env python3
 """judge.py LINES REFERENCE ANSWERS
 Holds answers to operation lines (docs/OPERATIONS.md) against reference answers, each as document 01 says: to the bit,
-or within its bound. Prints what differs, the largest distances, and last how many lines were judged and how many failed."""
+or within its bound; marks exactly. Prints what differs, the largest distances, and last how many lines were judged and how many failed."""
 import math
 import re
 import struct
@@ -9,6 +9,7 @@ import sys
 
 LRL = (0, 3, 4)  # left front, right middle, left rear, as places of a row
 RLR = (1, 2, 5)
+BANDS = ("step", "tstep", "estep", "plan", "fk")  # a line of theirs with marks has an m more
 
 
 def number(bits):
@@ -32,6 +33,8 @@ class Judge:
         return None
 
     def row(self, what, got, want, bound):
+        if len(got) != len(want):
+            return "another number of values"
         for a, b in zip(floats(got), floats(want)):
             bad = self.near(what, a, b, bound)
             if bad:
@@ -48,12 +51,11 @@ class Judge:
                 return "x or y differs"
         return self.row(name + " z", got[4::3], want[4::3], 2.0 ** -19)
 
-    def plan(self, line, got, want):
+    def plan(self, given, got, want):
         if len(got) != 19 or got[0] != "ok":
             return "another kind of answer"
         if got[3::3] != want[3::3]:
             return "a planned z differs"
-        given = line.split()
         start, relaxed = floats(given[1:19]), floats(given[19:37])
         lifted, standing = (LRL, RLR) if given[37] == "0" else (RLR, LRL)
         legs = lifted + standing if turns_well(start, relaxed, standing) else lifted
@@ -71,6 +73,12 @@ class Judge:
             return past_limit(line, g) or reached(line, got)
         if not w or w[0] != "ok" or not g or g[0] != "ok":
             return "another refusal"
+        given = line.split(" ")
+        if name[-1] == "m" and name[:-1] in BANDS:
+            if g[-1] != w[-1]:
+                return "the marks differ"
+            name, g, w = name[:-1], g[:-1], w[:-1]
+            given = given[:19] + given[20:38] + given[39:] if name == "plan" else given
         if name in ("sin", "cos"):
             return self.near(name, number(g[1]), number(w[1]), 2.0 ** -21 + 2.0 ** -23)
         if name in ("acos", "atan2"):
@@ -79,7 +87,7 @@ class Judge:
         if name in ("step", "tstep", "estep"):
             return self.step(name, g, w)
         if name == "plan":
-            return self.plan(line, g, w)
+            return self.plan(given, g, w)
         if name in ("ik", "iks"):
             return self.row("joints", g[1:], w[1:], 2.0 ** -16)
         if name == "fk":

@@ -8,42 +8,44 @@ extern "C" {
     fn probe_cosine(x: f32, out: &mut f32) -> u32;
     fn probe_arc_cosine(x: f32, out: &mut f32) -> u32;
     fn probe_atan2(y: f32, x: f32, out: &mut f32) -> u32;
-    fn probe_as_legs(s: *const f32, n: usize, out: *mut f32, m: usize) -> u32;
-    fn probe_from_legs(s: *const f32, n: usize, out: *mut f32, m: usize) -> u32;
-    fn probe_merge(s: *const f32, n: usize, mask: u32, out: *mut f32, m: usize) -> u32;
-    fn probe_select(s: *const f32, n: usize, mask: u32, out: *mut f32, m: usize, len: &mut usize) -> u32;
-    fn probe_update(s: *const f32, n: usize, values: *const f32, v: usize, count: usize, mask: u32, out: *mut f32, m: usize) -> u32;
+    fn probe_as_legs(s: *const f32, n: usize, marks: u32, out: *mut f32, m: usize, lifted: &mut u32) -> u32;
+    fn probe_from_legs(s: *const f32, n: usize, marks: u32, out: *mut f32, m: usize, lifted: &mut u32) -> u32;
+    fn probe_merge(s: *const f32, n: usize, marks: u32, mask: u32, out: *mut f32, m: usize, lifted: &mut u32) -> u32;
+    fn probe_select(s: *const f32, n: usize, marks: u32, mask: u32, out: *mut f32, m: usize, len: &mut usize, lifted: &mut u32) -> u32;
+    fn probe_update(s: *const f32, n: usize, marks: u32, values: *const f32, v: usize, lent: u64, count: usize, mask: u32, out: *mut f32, m: usize, lifted: &mut u32) -> u32;
     fn probe_move(s: *const f32, n: usize, out: *mut f32, m: usize) -> u32;
     fn probe_point_iter(s: *const f32, n: usize, out: *mut f32, m: usize, max_move: &mut f32) -> u32;
     fn probe_next_point(s: *const f32, n: usize, point: *mut f32, k: usize, out: *mut f32, m: usize, max_move: &mut f32) -> u32;
-    fn probe_move_feet(s: *const f32, n: usize, out: *mut f32, m: usize) -> u32;
-    fn probe_feet_iter(s: *const f32, n: usize, last: *mut f32, k: usize, target: *mut f32, m: usize, max_move: &mut f32) -> u32;
-    fn probe_next_feet(s: *const f32, n: usize, out: *mut f32, j: usize, last: *mut f32, k: usize, target: *mut f32, m: usize, max_move: &mut f32) -> u32;
-    fn probe_longest_distance(s: *const f32, n: usize, out: &mut f32) -> u32;
+    fn probe_move_feet(s: *const f32, n: usize, marks: u32, out: *mut f32, m: usize, lifted: &mut u32) -> u32;
+    fn probe_feet_iter(s: *const f32, n: usize, marks: u32, last: *mut f32, k: usize, target: *mut f32, m: usize, max_move: &mut f32, lifted: &mut u32) -> u32;
+    fn probe_next_feet(s: *const f32, n: usize, marks: u32, out: *mut f32, j: usize, last: *mut f32, k: usize, target: *mut f32, m: usize, max_move: &mut f32, lifted: &mut u32) -> u32;
+    fn probe_longest_distance(s: *const f32, n: usize, marks: u32, out: &mut f32) -> u32;
     fn probe_walk(s: *const f32, n: usize) -> u64;
-    fn probe_walk_feet(s: *const f32, n: usize) -> u64;
+    fn probe_walk_feet(s: *const f32, n: usize, marks: u32) -> u64;
     fn probe_new(x: f32, y: f32, rotation: f32, out: *mut f32, m: usize, s: &mut u64, ns: &mut u32) -> u32;
     fn probe_command(f: *const f32, n: usize, aggressive: u32, ps: u64, pn: u32, out: *mut f32, m: usize, s: &mut u64, ns: &mut u32) -> u32;
     fn probe_should_move(f: *const f32, n: usize, aggressive: u32, ps: u64, pn: u32) -> u32;
     fn probe_timed_progress(es: u64, en: u32, ps: u64, pn: u32, out: &mut f32) -> u32;
     fn probe_even_progress(es: u64, en: u32, ps: u64, pn: u32, out: &mut f32) -> u32;
-    fn probe_step_iter(s: *const f32, n: usize, t: u32, a: u32, o: *mut f32, i: usize, p: *mut f32, j: usize, q: *mut f32, k: usize, max_move: &mut f32, height: &mut f32) -> u32;
-    fn probe_timed_iter(s: *const f32, n: usize, t: u32, a: u32, ps: u64, pn: u32, o: *mut f32, i: usize, p: *mut f32, j: usize, q: *mut f32, k: usize, height: &mut f32, descent: &mut f32, s: &mut u64, ns: &mut u32) -> u32;
-    fn probe_even_iter(s: *const f32, n: usize, t: u32, a: u32, ps: u64, pn: u32, o: *mut f32, i: usize, p: *mut f32, j: usize, q: *mut f32, k: usize, height: &mut f32, descent: &mut f32, s: &mut u64, ns: &mut u32) -> u32;
-    fn probe_next_step(s: *const f32, n: usize, t: u32, a: u32, out: *mut f32, m: usize, o: *mut f32, i: usize, p: *mut f32, j: usize, q: *mut f32, k: usize, max_move: &mut f32, height: &mut f32, mark: &mut u32) -> u32;
-    fn probe_next_timed(s: *const f32, n: usize, t: u32, a: u32, es: u64, en: u32, ps: u64, pn: u32, out: *mut f32, m: usize, o: *mut f32, i: usize, p: *mut f32, j: usize, q: *mut f32, k: usize, height: &mut f32, descent: &mut f32, s: &mut u64, ns: &mut u32, mark: &mut u32) -> u32;
-    fn probe_next_even(s: *const f32, n: usize, t: u32, a: u32, es: u64, en: u32, ps: u64, pn: u32, out: *mut f32, m: usize, o: *mut f32, i: usize, p: *mut f32, j: usize, q: *mut f32, k: usize, height: &mut f32, descent: &mut f32, s: &mut u64, ns: &mut u32, mark: &mut u32) -> u32;
-    fn probe_plan(s: *const f32, n: usize, t: u32, a: u32, seconds: u64, nanoseconds: u32, out: *mut f32, m: usize) -> u32;
-    fn probe_ik(s: *const f32, n: usize, out: *mut f32, m: usize) -> u32;
-    fn probe_ik_strict(s: *const f32, n: usize, out: *mut f32, m: usize) -> u32;
-    fn probe_fk(s: *const f32, n: usize, out: *mut f32, m: usize) -> u32;
+    fn probe_step_iter(s: *const f32, n: usize, marks: u32, t: u32, a: u32, o: *mut f32, i: usize, p: *mut f32, j: usize, q: *mut f32, k: usize, max_move: &mut f32, height: &mut f32, lifted: &mut u32) -> u32;
+    fn probe_timed_iter(s: *const f32, n: usize, marks: u32, t: u32, a: u32, ps: u64, pn: u32, o: *mut f32, i: usize, p: *mut f32, j: usize, q: *mut f32, k: usize, height: &mut f32, descent: &mut f32, s: &mut u64, ns: &mut u32, lifted: &mut u32) -> u32;
+    fn probe_even_iter(s: *const f32, n: usize, marks: u32, t: u32, a: u32, ps: u64, pn: u32, o: *mut f32, i: usize, p: *mut f32, j: usize, q: *mut f32, k: usize, height: &mut f32, descent: &mut f32, s: &mut u64, ns: &mut u32, lifted: &mut u32) -> u32;
+    fn probe_next_step(s: *const f32, n: usize, marks: u32, t: u32, a: u32, out: *mut f32, m: usize, o: *mut f32, i: usize, p: *mut f32, j: usize, q: *mut f32, k: usize, max_move: &mut f32, height: &mut f32, mark: &mut u32, lifted: &mut u32) -> u32;
+    fn probe_next_timed(s: *const f32, n: usize, marks: u32, t: u32, a: u32, es: u64, en: u32, ps: u64, pn: u32, out: *mut f32, m: usize, o: *mut f32, i: usize, p: *mut f32, j: usize, q: *mut f32, k: usize, height: &mut f32, descent: &mut f32, s: &mut u64, ns: &mut u32, mark: &mut u32, lifted: &mut u32) -> u32;
+    fn probe_next_even(s: *const f32, n: usize, marks: u32, t: u32, a: u32, es: u64, en: u32, ps: u64, pn: u32, out: *mut f32, m: usize, o: *mut f32, i: usize, p: *mut f32, j: usize, q: *mut f32, k: usize, height: &mut f32, descent: &mut f32, s: &mut u64, ns: &mut u32, mark: &mut u32, lifted: &mut u32) -> u32;
+    fn probe_plan(s: *const f32, n: usize, marks: u32, t: u32, a: u32, seconds: u64, nanoseconds: u32, out: *mut f32, m: usize, lifted: &mut u32) -> u32;
+    fn probe_ik(s: *const f32, n: usize, marks: u32, out: *mut f32, m: usize) -> u32;
+    fn probe_ik_strict(s: *const f32, n: usize, marks: u32, out: *mut f32, m: usize) -> u32;
+    fn probe_fk(s: *const f32, n: usize, out: *mut f32, m: usize, lifted: &mut u32) -> u32;
 }
 
 /// What an entry is called with. Lent values of an update stand after the feet, at 18. A state that stepped is called again
-/// at the time `later`.
+/// at the time `later`. Bit 6 * r + l of the marks is that of leg l of the r-th row of feet, bit i of `lent` that of lent value i.
 #[derive(Clone, Copy)]
 pub struct Input {
     pub f: [f32; 210],
+    pub marks: u32,
+    pub lent: u64,
     pub mask: u32,
     pub count: usize,
     pub tripod: u32,
@@ -63,8 +65,11 @@ impl Input {
     fn feet(&self, k: usize) -> Feet {
         std::array::from_fn(|l| self.point(k + 3 * l))
     }
+    fn marks(&self, row: usize) -> Marks {
+        self.marks >> (6 * row) & 63
+    }
     fn course(&self) -> Course {
-        Course { start: self.feet(0), last: self.feet(18), target: self.feet(36) }
+        Course { start: self.feet(0), last: self.feet(18), target: self.feet(36), marks: [self.marks(0), self.marks(1), self.marks(2)] }
     }
     fn body(&self) -> Body {
         std::array::from_fn(|k| self.f[18 + k])
@@ -103,6 +108,9 @@ impl Angles for Ours {
 /// What an output holds before the call: a NaN's bits that no entry makes.
 const HELD: f32 = f32::from_bits(0x7fab_cdef);
 
+/// What its marks hold: a bit past those of four rows.
+const NO_MARKS: u32 = 0x8abc_def5;
+
 fn held(out: &[f32]) -> bool {
     out.iter().all(|x| x.to_bits() == HELD.to_bits())
 }
@@ -113,6 +121,11 @@ fn same(a: &[f32], b: &[f32]) -> bool {
 
 fn is_at(out: &[f32], feet: &Feet) -> bool {
     same(out, feet.as_flattened())
+}
+
+/// The marks of several rows, in their order.
+fn rows_of(marks: &[Marks]) -> u32 {
+    marks.iter().rev().fold(0, |all, m| all << 6 | m)
 }
 
 /// The largest distances from the reading with Rust's functions.
@@ -160,43 +173,49 @@ fn atan2(i: &Input, want: u32, w: &mut Worst) -> bool {
     d <= 1.0 / 262144.0 && out.is_sign_negative() == y.is_sign_negative() && out.abs() <= P
 }
 
-/// The same floats in the same order; a NaN may be any.
-fn moved_only(n: u32, out: &[f32], i: &Input) -> bool {
-    n == 0 && (0..18).all(|k| out[k].to_bits() == i.f[k].to_bits() || (out[k].is_nan() && i.f[k].is_nan()))
+/// The same floats and marks in the same order; a NaN may be any.
+fn moved_only(n: u32, out: &[f32], lifted: u32, i: &Input) -> bool {
+    n == 0 && lifted == i.marks(0) && (0..18).all(|k| out[k].to_bits() == i.f[k].to_bits() || (out[k].is_nan() && i.f[k].is_nan()))
 }
 
 fn as_legs(i: &Input, _: u32, _: &mut Worst) -> bool {
-    let mut out = [HELD; 18];
-    let n = unsafe { probe_as_legs(i.at(0), 18, out.as_mut_ptr(), 18) };
-    moved_only(n, &out, i)
+    let (mut out, mut lifted) = ([HELD; 18], NO_MARKS);
+    let n = unsafe { probe_as_legs(i.at(0), 18, i.marks, out.as_mut_ptr(), 18, &mut lifted) };
+    moved_only(n, &out, lifted, i)
 }
 
 fn from_legs(i: &Input, _: u32, _: &mut Worst) -> bool {
-    let mut out = [HELD; 18];
-    let n = unsafe { probe_from_legs(i.at(0), 18, out.as_mut_ptr(), 18) };
-    moved_only(n, &out, i)
+    let (mut out, mut lifted) = ([HELD; 18], NO_MARKS);
+    let n = unsafe { probe_from_legs(i.at(0), 18, i.marks, out.as_mut_ptr(), 18, &mut lifted) };
+    moved_only(n, &out, lifted, i)
 }
 
 fn merge(i: &Input, want: u32, _: &mut Worst) -> bool {
-    let mut out = [HELD; 18];
-    let n = unsafe { probe_merge(i.at(0), 36, i.mask, out.as_mut_ptr(), 18) };
-    n == want && if want == 0 { is_at(&out, &merged(i.feet(0), i.feet(18), i.mask)) } else { held(&out) }
+    let (mut out, mut lifted) = ([HELD; 18], NO_MARKS);
+    let n = unsafe { probe_merge(i.at(0), 36, i.marks, i.mask, out.as_mut_ptr(), 18, &mut lifted) };
+    if n != want || want != 0 {
+        return n == want && held(&out) && lifted == NO_MARKS;
+    }
+    is_at(&out, &merged(i.feet(0), i.feet(18), i.mask)) && lifted == merged_marks(i.marks(0), i.marks(1), i.mask)
 }
 
 fn select(i: &Input, want: u32, _: &mut Worst) -> bool {
-    let (mut out, mut len) = ([HELD; 18], 77);
-    let n = unsafe { probe_select(i.at(0), 18, i.mask, out.as_mut_ptr(), 18, &mut len) };
+    let (mut out, mut len, mut lifted) = ([HELD; 18], 77, NO_MARKS);
+    let n = unsafe { probe_select(i.at(0), 18, i.marks, i.mask, out.as_mut_ptr(), 18, &mut len, &mut lifted) };
     if n != want || want != 0 {
-        return n == want && held(&out) && len == 77;
+        return n == want && held(&out) && len == 77 && lifted == NO_MARKS;
     }
     let points = selected(i.feet(0), i.mask);
-    len == points.len() && same(&out[..3 * len], points.as_flattened()) && out[3 * len..].iter().all(|x| x.to_bits() == 0)
+    lifted == selected_marks(i.marks(0), i.mask) && len == points.len() && same(&out[..3 * len], points.as_flattened()) && out[3 * len..].iter().all(|x| x.to_bits() == 0)
 }
 
 fn update(i: &Input, want: u32, _: &mut Worst) -> bool {
-    let mut out = [HELD; 18];
-    let n = unsafe { probe_update(i.at(0), 18, i.at(18), 192, i.count, i.mask, out.as_mut_ptr(), 18) };
-    n == want && if want == 0 { is_at(&out, &updated(i.feet(0), &i.feet(18), i.mask)) } else { held(&out) }
+    let (mut out, mut lifted) = ([HELD; 18], NO_MARKS);
+    let n = unsafe { probe_update(i.at(0), 18, i.marks, i.at(18), 192, i.lent, i.count, i.mask, out.as_mut_ptr(), 18, &mut lifted) };
+    if n != want || want != 0 {
+        return n == want && held(&out) && lifted == NO_MARKS;
+    }
+    is_at(&out, &updated(i.feet(0), &i.feet(18), i.mask)) && lifted == updated_marks(i.marks(0), i.lent, i.mask)
 }
 
 /// The one move, against both of the source's.
@@ -251,29 +270,32 @@ fn next_point(i: &Input, want: u32, _: &mut Worst) -> bool {
     point_turn(i, want).is_some_and(|after| want != 0 || point_turns(&after).is_some())
 }
 
+/// Moved or arrived, the feet have last's marks.
 fn move_feet(i: &Input, want: u32, _: &mut Worst) -> bool {
-    let mut out = [HELD; 18];
-    let n = unsafe { probe_move_feet(i.at(0), 37, out.as_mut_ptr(), 18) };
+    let (mut out, mut lifted) = ([HELD; 18], NO_MARKS);
+    let n = unsafe { probe_move_feet(i.at(0), 37, i.marks, out.as_mut_ptr(), 18, &mut lifted) };
     if want != 0 {
-        return n == want && held(&out);
+        return n == want && held(&out) && lifted == NO_MARKS;
     }
     let (feet, moved) = feet_towards(i.feet(0), i.feet(18), i.f[36]);
-    n == 256 * moved as u32 && is_at(&out, &feet)
+    n == 256 * moved as u32 && is_at(&out, &feet) && lifted == i.marks(0)
 }
 
 fn feet_turn(i: &Input, want: u32) -> Option<Input> {
-    let (mut out, mut last, mut target, mut m) = ([HELD; 18], [HELD; 18], [HELD; 18], HELD);
-    let n = unsafe { probe_next_feet(i.at(0), 37, out.as_mut_ptr(), 18, last.as_mut_ptr(), 18, target.as_mut_ptr(), 18, &mut m) };
+    let (mut out, mut last, mut target, mut m, mut lifted) = ([HELD; 18], [HELD; 18], [HELD; 18], HELD, NO_MARKS);
+    let n = unsafe { probe_next_feet(i.at(0), 37, i.marks, out.as_mut_ptr(), 18, last.as_mut_ptr(), 18, target.as_mut_ptr(), 18, &mut m, &mut lifted) };
     let (feet, moved) = if want == 0 { feet_towards(i.feet(0), i.feet(18), i.f[36]) } else { (i.feet(0), false) };
     if !moved {
-        return (n == want && held(&out) && held(&last) && held(&target) && held(&[m])).then_some(*i);
+        return (n == want && held(&out) && held(&last) && held(&target) && held(&[m]) && lifted == NO_MARKS).then_some(*i);
     }
     let good = n == 256 && is_at(&out, &feet) && is_at(&last, &feet) && same(&target, &i.f[18..36]) && same(&[m], &i.f[36..37]);
-    good.then(|| {
+    let marks = lifted == rows_of(&[i.marks(0), i.marks(0), i.marks(1)]);
+    (good && marks).then(|| {
         let mut after = *i;
         after.f[..18].copy_from_slice(&last);
         after.f[18..36].copy_from_slice(&target);
         after.f[36] = m;
+        after.marks = lifted >> 6;
         after
     })
 }
@@ -283,12 +305,13 @@ fn feet_turns(i: &Input) -> Option<Input> {
 }
 
 fn feet_iter(i: &Input, want: u32, _: &mut Worst) -> bool {
-    let (mut last, mut target, mut m) = ([HELD; 18], [HELD; 18], HELD);
-    let n = unsafe { probe_feet_iter(i.at(0), 37, last.as_mut_ptr(), 18, target.as_mut_ptr(), 18, &mut m) };
+    let (mut last, mut target, mut m, mut lifted) = ([HELD; 18], [HELD; 18], HELD, NO_MARKS);
+    let n = unsafe { probe_feet_iter(i.at(0), 37, i.marks, last.as_mut_ptr(), 18, target.as_mut_ptr(), 18, &mut m, &mut lifted) };
     if want != 0 {
-        return n == want && held(&last) && held(&target) && held(&[m]);
+        return n == want && held(&last) && held(&target) && held(&[m]) && lifted == NO_MARKS;
     }
-    n == 0 && same(&last, &i.f[..18]) && same(&target, &i.f[18..36]) && same(&[m], &i.f[36..37]) && feet_turns(i).is_some()
+    let state = same(&last, &i.f[..18]) && same(&target, &i.f[18..36]) && same(&[m], &i.f[36..37]) && lifted == rows_of(&[i.marks(0), i.marks(1)]);
+    n == 0 && state && feet_turns(i).is_some()
 }
 
 fn next_feet(i: &Input, want: u32, _: &mut Worst) -> bool {
@@ -297,7 +320,7 @@ fn next_feet(i: &Input, want: u32, _: &mut Worst) -> bool {
 
 fn longest_distance(i: &Input, want: u32, _: &mut Worst) -> bool {
     let mut out = HELD;
-    let n = unsafe { probe_longest_distance(i.at(0), 36, &mut out) };
+    let n = unsafe { probe_longest_distance(i.at(0), 36, i.marks, &mut out) };
     number(n, out, want, || longest(i.feet(0), i.feet(18)))
 }
 
@@ -307,7 +330,7 @@ fn one_walk(i: &Input, want: u32, _: &mut Worst) -> bool {
 }
 
 fn six_walks(i: &Input, want: u32, _: &mut Worst) -> bool {
-    let n = unsafe { probe_walk_feet(i.at(0), 37) };
+    let n = unsafe { probe_walk_feet(i.at(0), 37, i.marks) };
     if want != 0 {
         return n == (want as u64) << 32;
     }
@@ -387,21 +410,24 @@ fn lift_and_progress(i: &Input, pace: Pace) -> (Lift, f32) {
 const NO_TIME: Time = Time { s: 77, ns: 78 };
 const NO_MARK: u32 = 79;
 
-/// What a step gives back: its feet; the state after: start, last, target, two floats, the period, the mark of tripod and lift.
+/// What a step gives back: its feet; the state after: start, last, target, two floats, the period, the mark of tripod and lift;
+/// the marks of the feet and of the state's rows.
 struct After {
     feet: [f32; 18],
     rows: [[f32; 18]; 3],
     two: [f32; 2],
     period: Time,
     mark: u32,
+    lifted: u32,
 }
 
 impl After {
     fn new() -> After {
-        After { feet: [HELD; 18], rows: [[HELD; 18]; 3], two: [HELD; 2], period: NO_TIME, mark: NO_MARK }
+        After { feet: [HELD; 18], rows: [[HELD; 18]; 3], two: [HELD; 2], period: NO_TIME, mark: NO_MARK, lifted: NO_MARKS }
     }
     fn is_held(&self) -> bool {
-        held(&self.feet) && held(self.rows.as_flattened()) && held(&self.two) && self.period == NO_TIME && self.mark == NO_MARK
+        let floats = held(&self.feet) && held(self.rows.as_flattened()) && held(&self.two);
+        floats && self.period == NO_TIME && self.mark == NO_MARK && self.lifted == NO_MARKS
     }
     /// The state is that of i, but for start, last, target and the place of the two floats.
     fn is_state(&self, i: &Input, pace: Pace, rows: [&[f32]; 3], two: &[f32]) -> bool {
@@ -409,9 +435,9 @@ impl After {
         let mark = 256 * i.tripod + 512 * i.aggressive;
         self.mark == mark && self.period == period && same(&self.two, two) && (0..3).all(|k| same(&self.rows[k], rows[k]))
     }
-    /// The next call on this state.
-    fn again(&self, i: &Input, pace: Pace) -> Input {
-        let mut next = *i;
+    /// The next call on this state, whose rows have these marks.
+    fn again(&self, i: &Input, pace: Pace, marks: u32) -> Input {
+        let mut next = Input { marks, ..*i };
         next.f[..54].copy_from_slice(self.rows.as_flattened());
         next.f[54..56].copy_from_slice(&self.two);
         (next.tripod, next.aggressive, next.elapsed) = (self.mark >> 8 & 1, self.mark >> 9 & 1, i.later);
@@ -425,36 +451,37 @@ impl After {
 /// A state sets out, and steps once.
 fn set_out(i: &Input, want: u32, pace: Pace, w: &mut Worst) -> bool {
     let mut a = After::new();
-    let (s, t, l, p) = (i.at(0), i.tripod, i.aggressive, i.period);
-    let After { rows: [o, q, r], two: [x, y], period: e, .. } = &mut a;
+    let (s, k, t, l, p) = (i.at(0), i.marks, i.tripod, i.aggressive, i.period);
+    let After { rows: [o, q, r], two: [x, y], period: e, lifted: g, .. } = &mut a;
     let (o, q, r) = (o.as_mut_ptr(), q.as_mut_ptr(), r.as_mut_ptr());
     let n = unsafe {
         match pace {
-            Pace::Distance => probe_step_iter(s, 38, t, l, o, 18, q, 18, r, 18, x, y),
-            Pace::Timed => probe_timed_iter(s, 38, t, l, p.s, p.ns, o, 18, q, 18, r, 18, x, y, &mut e.s, &mut e.ns),
-            Pace::Even => probe_even_iter(s, 38, t, l, p.s, p.ns, o, 18, q, 18, r, 18, x, y, &mut e.s, &mut e.ns),
+            Pace::Distance => probe_step_iter(s, 38, k, t, l, o, 18, q, 18, r, 18, x, y, g),
+            Pace::Timed => probe_timed_iter(s, 38, k, t, l, p.s, p.ns, o, 18, q, 18, r, 18, x, y, &mut e.s, &mut e.ns, g),
+            Pace::Even => probe_even_iter(s, 38, k, t, l, p.s, p.ns, o, 18, q, 18, r, 18, x, y, &mut e.s, &mut e.ns, g),
         }
     };
     if want != 0 {
         return n == want && a.is_held();
     }
     a.mark = n;
-    let next = a.again(i, pace);
-    a.is_state(i, pace, [&i.f[..18], &i.f[..18], &i.f[18..36]], &i.f[36..38]) && turn(&next, step_refusal(&next, pace), pace, w).is_some()
+    let next = a.again(i, pace, a.lifted);
+    let state = a.is_state(i, pace, [&i.f[..18], &i.f[..18], &i.f[18..36]], &i.f[36..38]) && a.lifted == rows_of(&[i.marks(0), i.marks(0), i.marks(1)]);
+    state && turn(&next, step_refusal(&next, pace), pace, w).is_some()
 }
 
 /// One call on a state, which goes on at the later time; none where the answer is wrong.
-/// To the bit over the library's sine; over Rust's, x and y to the bit and z within 2^-19 m.
+/// To the bit over the library's sine; over Rust's, x and y to the bit and z within 2^-19 m. Marks by the answer's own points.
 fn turn(i: &Input, want: u32, pace: Pace, w: &mut Worst) -> Option<Input> {
     let mut a = After::new();
-    let (s, t, l, e, p) = (i.at(0), i.tripod, i.aggressive, i.elapsed, i.period);
-    let After { feet: out, rows: [o, q, r], two: [x, y], period: b, mark: m } = &mut a;
+    let (s, k, t, l, e, p) = (i.at(0), i.marks, i.tripod, i.aggressive, i.elapsed, i.period);
+    let After { feet: out, rows: [o, q, r], two: [x, y], period: b, mark: m, lifted: g } = &mut a;
     let (out, o, q, r) = (out.as_mut_ptr(), o.as_mut_ptr(), q.as_mut_ptr(), r.as_mut_ptr());
     let n = unsafe {
         match pace {
-            Pace::Distance => probe_next_step(s, 56, t, l, out, 18, o, 18, q, 18, r, 18, x, y, m),
-            Pace::Timed => probe_next_timed(s, 56, t, l, e.s, e.ns, p.s, p.ns, out, 18, o, 18, q, 18, r, 18, x, y, &mut b.s, &mut b.ns, m),
-            Pace::Even => probe_next_even(s, 56, t, l, e.s, e.ns, p.s, p.ns, out, 18, o, 18, q, 18, r, 18, x, y, &mut b.s, &mut b.ns, m),
+            Pace::Distance => probe_next_step(s, 56, k, t, l, out, 18, o, 18, q, 18, r, 18, x, y, m, g),
+            Pace::Timed => probe_next_timed(s, 56, k, t, l, e.s, e.ns, p.s, p.ns, out, 18, o, 18, q, 18, r, 18, x, y, &mut b.s, &mut b.ns, m, g),
+            Pace::Even => probe_next_even(s, 56, k, t, l, e.s, e.ns, p.s, p.ns, out, 18, o, 18, q, 18, r, 18, x, y, &mut b.s, &mut b.ns, m, g),
         }
     };
     let stays = Input { elapsed: i.later, ..*i };
@@ -469,7 +496,9 @@ fn turn(i: &Input, want: u32, pace: Pace, w: &mut Worst) -> Option<Input> {
     let (out, rust) = (&a.feet, rust.as_flattened());
     let near = (0..18).all(|k| if k % 3 == 2 { w.near(out[k], rust[k], 1.0 / 524288.0) } else { out[k].to_bits() == rust[k].to_bits() });
     let state = a.is_state(i, pace, [&i.f[..18], ours.as_flattened(), &i.f[36..54]], &i.f[54..56]);
-    (n == 256 && is_at(out, &ours) && near && state).then(|| a.again(i, pace))
+    let new = step_marks(&c, i.tripod, &ours);
+    let marks = a.lifted == rows_of(&[new, c.marks[0], new, c.marks[2]]);
+    (n == 256 && is_at(out, &ours) && near && state && marks).then(|| a.again(i, pace, a.lifted >> 6))
 }
 
 /// Two calls, the second on the state that the first left.
@@ -502,17 +531,20 @@ fn even_step(i: &Input, want: u32, w: &mut Worst) -> bool {
 }
 
 /// To the bit over the library's functions; over Rust's, z to the bit, lifted feet within 2^-12 m, standing ones where they turn well.
+/// All six feet have start's marks.
 fn planner(i: &Input, want: u32, w: &mut Worst) -> bool {
-    let mut out = [HELD; 18];
-    let n = unsafe { probe_plan(i.at(0), 40, i.tripod, i.aggressive, i.period.s, i.period.ns, out.as_mut_ptr(), 18) };
+    let (mut out, mut lifted) = ([HELD; 18], NO_MARKS);
+    let n = unsafe { probe_plan(i.at(0), 40, i.marks, i.tripod, i.aggressive, i.period.s, i.period.ns, out.as_mut_ptr(), 18, &mut lifted) };
     if n != want || want != 0 {
-        return n == want && held(&out);
+        return n == want && held(&out) && lifted == NO_MARKS;
     }
+    let planned_marks = i.marks(0);
     let (start, relaxed, asked) = (i.feet(0), i.feet(18), i.point(36));
     let rust = plan::<Rust>(start, relaxed, i.tripod, asked);
     let well = turns_well(start, relaxed, i.tripod);
     let mut near = |l: usize| (0..2).all(|k| w.near(out[3 * l + k], rust[l][k], 1.0 / 4096.0));
     is_at(&out, &plan::<Ours>(start, relaxed, i.tripod, asked))
+        && lifted == planned_marks
         && (0..6).all(|l| out[3 * l + 2].to_bits() == rust[l][2].to_bits() && (!(well || is_lifted(i.tripod, l)) || near(l)))
 }
 
@@ -520,7 +552,7 @@ fn planner(i: &Input, want: u32, w: &mut Worst) -> bool {
 /// side only where a coxa angle is within 2^-16 of a limit. Where no leg is past its limit, the strict one looks at how far the feet are.
 fn solved(i: &Input, want: u32, w: &mut Worst, strict: bool) -> bool {
     let mut out = [HELD; 18];
-    let n = unsafe { if strict { probe_ik_strict(i.at(0), 59, out.as_mut_ptr(), 18) } else { probe_ik(i.at(0), 59, out.as_mut_ptr(), 18) } };
+    let n = unsafe { if strict { probe_ik_strict(i.at(0), 59, i.marks, out.as_mut_ptr(), 18) } else { probe_ik(i.at(0), 59, i.marks, out.as_mut_ptr(), 18) } };
     if want != 0 {
         return n == want && held(&out);
     }
@@ -546,17 +578,17 @@ fn strict_inverse_kinematics(i: &Input, want: u32, w: &mut Worst) -> bool {
     solved(i, want, w, true)
 }
 
-/// To the bit over the library's functions; over Rust's within 2^-17 m.
+/// To the bit over the library's functions; over Rust's within 2^-17 m. Six standing feet.
 fn forward_kinematics(i: &Input, want: u32, w: &mut Worst) -> bool {
-    let mut out = [HELD; 18];
-    let n = unsafe { probe_fk(i.at(0), 59, out.as_mut_ptr(), 18) };
+    let (mut out, mut lifted) = ([HELD; 18], NO_MARKS);
+    let n = unsafe { probe_fk(i.at(0), 59, out.as_mut_ptr(), 18, &mut lifted) };
     if n != want || want != 0 {
-        return n == want && held(&out);
+        return n == want && held(&out) && lifted == NO_MARKS;
     }
     let (joints, body) = (i.feet(0), i.body());
     let ours: Feet = std::array::from_fn(|l| forward::<Ours>(joints[l], &body, &i.leg(l)));
     let rust: Feet = std::array::from_fn(|l| forward::<Rust>(joints[l], &body, &i.leg(l)));
-    is_at(&out, &ours) && (0..18).all(|k| w.near(out[k], rust.as_flattened()[k], 1.0 / 131072.0))
+    is_at(&out, &ours) && lifted == 0 && (0..18).all(|k| w.near(out[k], rust.as_flattened()[k], 1.0 / 131072.0))
 }
 
 // ---- the list
@@ -566,6 +598,9 @@ fn forward_kinematics(i: &Input, want: u32, w: &mut Worst) -> bool {
 pub struct Takes {
     /// Every float, and it refuses nothing.
     pub any: bool,
+    /// Feet with marks, of which these bits mean nothing to the answer.
+    pub marks: bool,
+    pub idle: u32,
     pub mask: bool,
     pub count: bool,
     pub tripod: bool,
@@ -617,6 +652,8 @@ pub fn entries() -> Vec<Entry> {
     let period = Takes { tripod: true, ..asked };
     let times = Takes { elapsed: true, period: true, ..none };
     let both = Takes { elapsed: true, ..period };
+    let feet = |takes, idle| Takes { marks: true, idle, ..takes };
+    let (first, second, third, all) = (63, 63 << 6, 63 << 12, u32::MAX);
     let one = || move_rows::<7>().to_vec();
     let six = || move_rows::<37>().to_vec();
     let told = [(2, DIRECTION), (1, ROTATION), (1, DIRECTION)];
@@ -632,34 +669,34 @@ pub fn entries() -> Vec<Entry> {
         entry("min", of(&[(2, FINITE)]), none, false, &[(0, 1, 1)], min as Check),
         entry("max", of(&[(2, FINITE)]), none, false, &[(0, 1, 1)], max),
         entry("atan2", of(&[(2, ATAN2)]), none, false, &[(0, 1, 1)], atan2),
-        entry("as legs", of(&[(18, FINITE)]), any, false, &[], as_legs),
-        entry("from legs", of(&[(18, FINITE)]), any, false, &[], from_legs),
-        entry("merge", of(&[(36, FOOT)]), mask, false, rows, merge),
-        entry("select", of(&[(18, FOOT)]), mask, false, &[], select),
-        entry("update", of(&[(210, FOOT)]), Takes { count: true, ..mask }, false, &[], update),
+        entry("as legs", of(&[(18, FINITE)]), feet(any, !first), false, &[], as_legs),
+        entry("from legs", of(&[(18, FINITE)]), feet(any, !first), false, &[], from_legs),
+        entry("merge", of(&[(36, FOOT)]), feet(mask, !(first | second)), false, rows, merge),
+        entry("select", of(&[(18, FOOT)]), feet(mask, !first), false, &[], select),
+        entry("update", of(&[(210, FOOT)]), feet(Takes { count: true, ..mask }, !first), false, &[], update),
         entry("one move", one(), none, false, pair, one_move),
         entry("point sets out", one(), none, false, pair, point_iter),
         entry("next point", one(), none, false, pair, next_point),
-        entry("longest distance", of(&[(36, FOOT)]), none, false, rows, longest_distance),
+        entry("longest distance", of(&[(36, FOOT)]), feet(none, all), false, rows, longest_distance),
         entry("new command", of(&told[..2]), none, false, &[], new),
         entry("command, all fields", of(&told), asked, false, &[], command),
         entry("should move", of(&told), asked, false, &[], should_move),
         entry("timed progress", vec![], times, false, &[], timed),
         entry("even progress", vec![], times, false, &[], even),
-        entry("six moves", six(), none, true, rows, move_feet),
-        entry("feet set out", six(), none, true, rows, feet_iter),
-        entry("next feet", six(), none, true, rows, next_feet),
+        entry("six moves", six(), feet(none, second), true, rows, move_feet),
+        entry("feet set out", six(), feet(none, second), true, rows, feet_iter),
+        entry("next feet", six(), feet(none, second), true, rows, next_feet),
         entry("walk", of(&[(6, WALK), (1, WALK_MOVE)]), none, true, pair, one_walk),
-        entry("six walks", of(&[(36, WALK), (1, WALK_MOVE)]), none, true, rows, six_walks),
-        entry("step sets out", of(&[(36, FOOT), (1, MAX_MOVE), (1, DIRECTION)]), lift, true, rows, step_iter),
-        entry("timed sets out", of(&[(36, FOOT), (2, DIRECTION)]), period, true, rows, timed_iter),
-        entry("even sets out", of(&[(36, FOOT), (2, DIRECTION)]), period, true, rows, even_iter),
-        entry("step by distance", step_rows(Pace::Distance).to_vec(), lift, true, three, step_by_distance),
-        entry("timed step", step_rows(Pace::Timed).to_vec(), both, true, three, timed_step),
-        entry("even step", step_rows(Pace::Even).to_vec(), both, true, three, even_step),
-        entry("planner", [of(&[(36, FOOT)]), of(&told)].concat(), period, true, rows, planner),
-        entry("inverse kinematics", [of(&[(18, FOOT)]), configuration()].concat(), none, true, &[], inverse_kinematics),
-        entry("strict inverse kinematics", [of(&[(18, FOOT)]), configuration()].concat(), none, true, &[], strict_inverse_kinematics),
+        entry("six walks", of(&[(36, WALK), (1, WALK_MOVE)]), feet(none, all), true, rows, six_walks),
+        entry("step sets out", of(&[(36, FOOT), (1, MAX_MOVE), (1, DIRECTION)]), feet(lift, second), true, rows, step_iter),
+        entry("timed sets out", of(&[(36, FOOT), (2, DIRECTION)]), feet(period, second), true, rows, timed_iter),
+        entry("even sets out", of(&[(36, FOOT), (2, DIRECTION)]), feet(period, second), true, rows, even_iter),
+        entry("step by distance", step_rows(Pace::Distance).to_vec(), feet(lift, first | third), true, three, step_by_distance),
+        entry("timed step", step_rows(Pace::Timed).to_vec(), feet(both, first | third), true, three, timed_step),
+        entry("even step", step_rows(Pace::Even).to_vec(), feet(both, first | third), true, three, even_step),
+        entry("planner", [of(&[(36, FOOT)]), of(&told)].concat(), feet(period, second), true, rows, planner),
+        entry("inverse kinematics", [of(&[(18, FOOT)]), configuration()].concat(), feet(none, all), true, &[], inverse_kinematics),
+        entry("strict inverse kinematics", [of(&[(18, FOOT)]), configuration()].concat(), feet(none, all), true, &[], strict_inverse_kinematics),
         entry("forward kinematics", [of(&[(18, MOTOR)]), configuration()].concat(), none, true, &[], forward_kinematics),
     ]
 }

@@ -80,6 +80,8 @@ fn permits(row: Row, x: f32) -> bool {
 #[derive(Clone, Copy)]
 enum Place {
     Float(usize),
+    Marks,
+    Lent,
     Mask,
     Count,
     Tripod,
@@ -91,10 +93,22 @@ enum Place {
 /// The special values of each position.
 struct Lists {
     floats: Vec<Vec<f32>>,
+    marks: Vec<u32>,
+    lent: Vec<u64>,
     masks: Vec<u32>,
     counts: Vec<usize>,
     elapsed: Vec<Time>,
     period: Vec<Time>,
+}
+
+/// Marks of up to three rows: none, all, one leg's, a row's, a tripod's.
+fn special_marks() -> Vec<u32> {
+    (0..18).map(|k| 1 << k).chain([0, u32::MAX, 63, 63 << 6, 63 << 12, 0o25_25_25, 0o31_31_31, 0o46_46_46]).collect()
+}
+
+/// Those of lent values: none, all, one, the first six.
+fn special_lent() -> Vec<u64> {
+    (0..7).chain([62, 63]).map(|k| 1 << k).chain([0, u64::MAX, 63]).collect()
 }
 
 impl Lists {
@@ -108,6 +122,8 @@ impl Lists {
         }
         Lists {
             floats: rows.iter().map(|&r| special(r)).collect(),
+            marks: special_marks(),
+            lent: special_lent(),
             masks: (0..=80).chain([127, 128, 255, 256, 0x8000_0000, u32::MAX - 63, u32::MAX]).collect(),
             counts: (0..=66).chain([usize::MAX]).collect(),
             elapsed: times.clone(),
@@ -120,6 +136,8 @@ impl Lists {
         let (last, over) = (999_999_999, 1_000_000_000);
         Lists {
             floats: rows.iter().map(|&r| few(r)).collect(),
+            marks: special_marks(),
+            lent: special_lent(),
             masks: vec![0, 1, 21, 32, 42, 62, 63, 64, 65, 127, 256, 0x8000_0000, u32::MAX - 63, u32::MAX],
             counts: (0..=7).chain([8, 63, 64, 65, usize::MAX]).collect(),
             elapsed: times(&[(0, 0), (0, 1), (0, last), (0, over), (0, u32::MAX), (1, 0), (3600, 0), (3600, last), (3600, over), (3601, 0), (1 << 32, 0), (u64::MAX, 0)]),
@@ -132,6 +150,8 @@ impl Lists {
     fn len(&self, place: Place) -> usize {
         match place {
             Place::Float(k) => self.floats[k].len(),
+            Place::Marks => self.marks.len(),
+            Place::Lent => self.lent.len(),
             Place::Mask => self.masks.len(),
             Place::Count => self.counts.len(),
             Place::Tripod | Place::Flag => 2,
@@ -143,6 +163,8 @@ impl Lists {
     fn put(&self, place: Place, at: usize, input: &mut Input) {
         match place {
             Place::Float(k) => input.f[k] = self.floats[k][at],
+            Place::Marks => input.marks = self.marks[at],
+            Place::Lent => input.lent = self.lent[at],
             Place::Mask => input.mask = self.masks[at],
             Place::Count => input.count = self.counts[at],
             Place::Tripod => input.tripod = at as u32,
@@ -160,6 +182,7 @@ struct Run {
     few: Lists,
     permitted: Vec<Vec<f32>>,
     floats: Vec<Place>,
+    marks: Vec<Place>,
     others: Vec<Place>,
     input: Input,
     random: Random,
@@ -175,12 +198,14 @@ impl Run {
         let permitted = entry.rows.iter().zip(&wide.floats).map(|(&r, all)| all.iter().copied().filter(|&x| permits(r, x)).collect()).collect();
         let none = Time { s: 0, ns: 0 };
         let t = entry.takes;
+        let marks = [(t.marks, Place::Marks), (t.count, Place::Lent)];
         let others = [(t.mask, Place::Mask), (t.count, Place::Count), (t.tripod, Place::Tripod), (t.flag, Place::Flag), (t.elapsed, Place::Elapsed), (t.period, Place::Period)];
         Run {
-            input: Input { f: [0.0; 210], mask: 0, count: 0, tripod: 0, aggressive: 0, elapsed: none, later: none, period: none },
+            input: Input { f: [0.0; 210], marks: 0, lent: 0, mask: 0, count: 0, tripod: 0, aggressive: 0, elapsed: none, later: none, period: none },
             random: Random(0x9e37_79b9_7f4a_7c15),
             few: Lists::few(&entry.rows),
             floats: (0..entry.rows.len()).map(Place::Float).collect(),
+            marks: marks.iter().filter(|m| m.0).map(|m| m.1).collect(),
             others: others.iter().filter(|o| o.0).map(|o| o.1).collect(),
             tried: 0,
             answered: 0,
@@ -197,7 +222,16 @@ impl Run {
         if self.entry.takes.count { 18 + 3 * self.input.count.min(64) } else { self.entry.rows.len() }
     }
 
+    /// A call; at times once more with those marks turned that mean nothing.
     fn call(&mut self) {
+        self.judged();
+        if self.entry.takes.idle != 0 && self.random.next() >> 61 == 0 {
+            self.input.marks ^= self.entry.takes.idle;
+            self.judged();
+        }
+    }
+
+    fn judged(&mut self) {
         let want = self.entry.refusal(&self.input);
         self.tried += 1;
         self.answered += (want == 0) as u64;
@@ -206,7 +240,10 @@ impl Run {
             if self.failed <= 3 {
                 let i = &self.input;
                 let bits: Vec<String> = i.f[..self.entry.rows.len()].iter().map(|x| format!("{:08x}", x.to_bits())).collect();
-                println!("{}: want {want}: {} mask {} count {} tripod {} aggressive {} {:?} {:?}", self.entry.name, bits.join(" "), i.mask, i.count, i.tripod, i.aggressive, i.elapsed, i.period);
+                println!(
+                    "{}: want {want}: {} marks {:o} lent {:x} mask {} count {} tripod {} aggressive {} {:?} {:?} later {:?}",
+                    self.entry.name, bits.join(" "), i.marks, i.lent, i.mask, i.count, i.tripod, i.aggressive, i.elapsed, i.period, i.later
+                );
             }
         }
     }
@@ -245,6 +282,11 @@ impl Run {
         }
         for k in 0..self.used() {
             self.input.f[k] = self.draw(k);
+        }
+        if takes.marks {
+            let m = self.random.next();
+            self.input.marks = if m & 7 == 0 { self.random.of(&self.wide.marks) } else { (m >> 32) as u32 };
+            self.input.lent = if m & 56 == 0 { self.random.of(&self.wide.lent) } else { self.random.next() };
         }
         self.input.tripod = (r >> 6) as u32 & 1;
         self.input.aggressive = (r >> 7) as u32 & 1;
@@ -344,6 +386,51 @@ impl Run {
         }
     }
 
+    /// Foot l of the row at `from` is put into the row at `to`: zeros with either sign, where `near` at times an x or y beside it.
+    fn set(&mut self, l: usize, from: usize, to: usize, near: bool) {
+        for k in 3 * l..3 * l + 3 {
+            let (x, r) = (self.input.f[from + k], self.random.next());
+            let beside = neighbour(x, r & 8 != 0);
+            let x = if near && k % 3 != 2 && r & 7 == 0 && permits(FOOT, beside) { beside } else { x };
+            self.input.f[to + k] = if x == 0.0 && r & 16 == 0 { -x } else { x };
+        }
+    }
+
+    /// Feet that are there and feet that come there: last is at the target in some legs, at times in all. Of a step some feet start at
+    /// their target, or beside it, and without height they come there at once; at times the step is over.
+    fn landing(&mut self) {
+        let n = self.entry.rows.len();
+        let (last, target) = match n {
+            37 | 38 => (0, 18),
+            56 => (18, 36),
+            _ => return,
+        };
+        let r = self.random.next();
+        let by_distance = self.entry.rows[n - 2] == MAX_MOVE;
+        if n != 37 && by_distance && r & 3 == 0 {
+            (0..18).for_each(|k| self.input.f[target + k] = self.input.f[k] + (self.input.f[target + k] - self.input.f[k]) * 0.0625);
+            self.input.f[n - 2] = 1.0;
+        }
+        if n != 37 && r & 4 == 0 {
+            self.input.f[if by_distance { n - 1 } else { n - 2 }] = if r & 8 == 0 { 0.0 } else { -0.0 };
+        }
+        if r & 0x30 == 0 {
+            self.input.elapsed = self.input.period;
+        }
+        if r & 0xc0 == 0 {
+            self.input.later = self.input.period;
+        }
+        let there = if r & 0x700 == 0 { 63 } else { (r >> 16) & (r >> 24) };
+        for l in 0..6 {
+            if n == 56 && r >> 32 >> l & 1 == 0 {
+                self.set(l, target, 0, true);
+            }
+            if there >> l & 1 == 1 {
+                self.set(l, target, last, false);
+            }
+        }
+    }
+
     /// Leg l of an inverse: its coxa points at its foot, at times about a right angle off, to either side, at times the reach is 0.
     fn aim(&mut self, l: usize) {
         let (r, at) = (self.random.next(), 23 + 6 * l);
@@ -429,7 +516,7 @@ impl Run {
     /// All special values in these positions at once, of long walks one in eight. What else there is is drawn anew for every
     /// sixteenth call.
     fn product(&mut self, places: &[Place], wide: bool) {
-        let all = places.len() == self.floats.len() + self.others.len();
+        let all = places.len() == self.floats.len() + self.marks.len() + self.others.len();
         let last = places.iter().filter_map(|p| if let Place::Float(k) = p { Some(*k) } else { None }).max().unwrap_or(0);
         let sizes: Vec<usize> = places.iter().map(|&p| self.lists(wide).len(p)).collect();
         let mut digits = vec![0; places.len()];
@@ -524,6 +611,7 @@ impl Run {
             14 if self.entry.name == "step by distance" => self.half_way(),
             15 => self.input.later = self.random.of(&self.wide.elapsed),
             16 => self.straight(),
+            17..=20 => self.landing(),
             _ => (),
         }
         self.call();
@@ -564,7 +652,7 @@ fn report(name: &str, tried: u64, permitted: u64, failed: u64, note: String) {
 fn whole(entry: Entry, cheap: u64, costly: u64) -> Run {
     let mut run = Run::new(entry);
     let depth = (cheap >= 1_000_000) as usize + (cheap >= 100_000_000) as usize;
-    let mut places = [run.floats.clone(), run.others.clone()].concat();
+    let mut places = [run.floats.clone(), run.marks.clone(), run.others.clone()].concat();
     let together = match places.len() {
         0..=4 => places.len(),
         5..=7 => [2, 4, 4][depth],

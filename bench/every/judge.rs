@@ -154,6 +154,41 @@ pub fn updated(feet: Feet, values: &[Point], mask: u32) -> Feet {
     std::array::from_fn(|l| if mask & FLAG[l] != 0 { *given.next().unwrap() } else { feet[l] })
 }
 
+// ---- marks (request K12): six bits, bit l for leg l of the row, 1 where its foot is lifted. No count and no refusal looks at them.
+
+pub type Marks = u32;
+
+fn marked(mut mark: impl FnMut(usize) -> u32) -> Marks {
+    (0..6).map(|l| (mark(l) & 1) << l).sum()
+}
+
+/// Flagged legs take the second's point and mark.
+pub fn merged_marks(a: Marks, b: Marks, mask: u32) -> Marks {
+    marked(|l| if mask & FLAG[l] != 0 { b >> l } else { a >> l })
+}
+
+/// In the order of the selected feet; an unused place stands.
+pub fn selected_marks(marks: Marks, mask: u32) -> Marks {
+    let of: Vec<u32> = (0..6).filter(|&l| mask & FLAG[l] != 0).map(|l| marks >> l).collect();
+    marked(|at| of.get(at).copied().unwrap_or(0))
+}
+
+/// Bit i of the lent ones is that of value i.
+pub fn updated_marks(marks: Marks, lent: u64, mask: u32) -> Marks {
+    let mut given = (0..64).map(|i| (lent >> i) as u32);
+    marked(|l| if mask & FLAG[l] != 0 { given.next().unwrap() } else { marks >> l })
+}
+
+/// After a step to these feet: a leg of the lifted tripod that moved is lifted, or stands where its new point is its target; every other leg
+/// keeps last's mark.
+pub fn step_marks(c: &Course, tripod: u32, feet: &Feet) -> Marks {
+    let [_start, last, _target] = c.marks;
+    marked(|l| {
+        let swings = is_lifted(tripod, l) && c.last[l] != c.target[l];
+        if swings { (feet[l] != c.target[l]) as u32 } else { last >> l }
+    })
+}
+
 // ---- steps
 
 pub fn seconds(t: Time) -> f32 {
@@ -182,6 +217,8 @@ pub struct Course {
     pub start: Feet,
     pub last: Feet,
     pub target: Feet,
+    /// Start's, last's, target's.
+    pub marks: [Marks; 3],
 }
 
 #[derive(Clone, Copy)]

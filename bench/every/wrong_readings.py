@@ -13,6 +13,13 @@ SIDES = "6\n    } else if angle <= (-90f32).to_radians() {\n        8"
 ENDS = "9\n    } else if far < (femur - tibia).abs() {\n        10"
 FIRST = "(0..6).find(|&l| refusals[l] != 0)"
 LEVEL = "if source && horizontal(c.start, c.target) == 0.0"
+SWINGS = "is_lifted(tripod, l) && c.last[l] != c.target[l]"
+LANDED = "if swings { (feet[l] != c.target[l]) as u32 } else { last >> l }"
+KEPT = "let [_start, last, _target] = c.marks;"
+AFTER = "rows_of(&[new, c.marks[0], new, c.marks[2]])"
+MOVED = "let marks = lifted == rows_of(&[i.marks(0), i.marks(0), i.marks(1)]);"
+SET_OUT = "&i.f[36..38]) && a.lifted == rows_of(&[i.marks(0), i.marks(0), i.marks(1)]);"
+WAYS = "if want == 0 { feet_towards(i.feet(0), i.feet(18), i.f[36]) } else { (i.feet(0), false) };"
 # what is read wrongly, where, the right words, the wrong ones
 WRONG = [
     ("a foot one ulp past its end", "judge.rs", "FOOT: Row = Row(-4.0, 4.0)", "FOOT: Row = Row(-4.0, 4.0000005)"),
@@ -71,6 +78,49 @@ WRONG = [
     ("a moving point is its target", "entries.rs", "same(&out[3..], &i.f[3..6])", "same(&out[3..], &p)"),
     ("moving feet stay", "entries.rs", "is_at(&last, &feet)", "same(&last, &i.f[..18])"),
     ("moving feet lose their target", "entries.rs", "is_at(&last, &feet) && same(&target, &i.f[18..36])", "is_at(&last, &feet) && is_at(&target, &feet)"),
+    # marks
+    ("a merge takes the point alone", "judge.rs", "{ b >> l } else { a >> l }", "{ a >> l } else { a >> l }"),
+    ("a merge takes all marks", "judge.rs", "{ b >> l } else { a >> l }", "{ b >> l } else { b >> l }"),
+    ("a selected mark stays in its place", "judge.rs", "of.get(at).copied().unwrap_or(0)", "if mask & FLAG[at] != 0 { marks >> at } else { 0 }"),
+    ("an unused place keeps its mark", "judge.rs", "unwrap_or(0)", "unwrap_or(marks >> at)"),
+    ("a refused selection clears marks", "entries.rs", "len == 77 && lifted == NO_MARKS", "len == 77 && lifted == 0"),
+    ("an update keeps the old mark", "judge.rs", "{ given.next().unwrap() } else { marks >> l }", "{ marks >> l } else { marks >> l }"),
+    ("an update clears the mark", "judge.rs", "{ given.next().unwrap() } else { marks >> l }", "{ 0 } else { marks >> l }"),
+    ("a lent mark by its leg", "judge.rs", "{ given.next().unwrap() } else", "{ (lent >> l) as u32 } else"),
+    ("left marks, then right ones", "entries.rs", "lifted == i.marks(0) && (0..18)", "(0..6).all(|l| lifted >> l & 1 == i.marks(0) >> [0, 2, 4, 1, 3, 5][l] & 1) && (0..18)"),
+    ("a move takes its target's mark", "entries.rs", "is_at(&out, &feet) && lifted == i.marks(0)", "is_at(&out, &feet) && lifted == i.marks(1)"),
+    ("an arrival takes its target's mark", "entries.rs", "is_at(&out, &feet) && lifted == i.marks(0)", "is_at(&out, &feet) && lifted == i.marks(1 - moved as usize)"),
+    ("moving feet take their target's", "entries.rs", MOVED, MOVED.replace("i.marks(0)", "i.marks(1)")),
+    ("moving feet change their target's", "entries.rs", MOVED, MOVED.replace("i.marks(1)", "i.marks(0)")),
+    ("moving feet go on for a mark", "entries.rs", WAYS, WAYS + "\n    let moved = moved || (want == 0 && i.marks(0) != i.marks(1));"),
+    ("a walk goes on for a mark", "entries.rs", "walk(i.f[36], start[l], target[l])", "walk(i.f[36], start[l], target[l]) + ((i.marks(0) ^ i.marks(1)) >> l & 1) as u64"),
+    ("a lifted foot is at no distance", "entries.rs", "longest(i.feet(0), i.feet(18))", "longest(i.feet(0), std::array::from_fn(|l| i.feet(18 * (1 - (i.marks(0) >> l & 1) as usize))[l]))"),
+    ("a lifted foot is in reach", "entries.rs", "if strict { reach(", "if strict && i.marks(0) >> l & 1 == 0 { reach("),
+    ("a step that set out stands", "entries.rs", SET_OUT, SET_OUT.replace("[i.marks(0), i.marks(0)", "[i.marks(0), 0")),
+    ("a step sets out with its target's", "entries.rs", SET_OUT, SET_OUT.replace("[i.marks(0), i.marks(0)", "[i.marks(0), i.marks(1)")),
+    ("a leg at its target is lifted", "judge.rs", LANDED, LANDED.replace("{ last >> l }", "{ last >> l | is_lifted(tripod, l) as u32 }")),
+    ("the standing legs are cleared", "judge.rs", LANDED, LANDED.replace("{ last >> l }", "{ last >> l & is_lifted(tripod, l) as u32 }")),
+    ("a step never clears a mark", "judge.rs", LANDED, LANDED.replace("(feet[l] != c.target[l]) as u32", "1")),
+    ("a landed leg keeps last's mark", "judge.rs", LANDED, LANDED.replace("if swings", "if swings && feet[l] != c.target[l]")),
+    ("progress for the point", "entries.rs", "step_marks(&c, i.tripod, &ours)", "step_marks(&c, i.tripod, &if progress >= 1.0 { c.target } else { [[9.0; 3]; 6] })"),
+    ("a leg that did not move is cleared", "judge.rs", SWINGS, "is_lifted(tripod, l)"),
+    ("both tripods are lifted", "judge.rs", SWINGS, "c.last[l] != c.target[l]"),
+    ("the other tripod is lifted", "judge.rs", SWINGS, "!" + SWINGS),
+    ("moved by bits", "judge.rs", SWINGS, "is_lifted(tripod, l) && c.last[l].map(f32::to_bits) != c.target[l].map(f32::to_bits)"),
+    ("landed by bits", "judge.rs", LANDED, LANDED.replace("feet[l] != c.target[l]", "feet[l].map(f32::to_bits) != c.target[l].map(f32::to_bits)")),
+    ("landed in x and y alone", "judge.rs", LANDED, LANDED.replace("feet[l] != c.target[l]", "feet[l][..2] != c.target[l][..2]")),
+    ("landed at the target's height", "judge.rs", LANDED, LANDED.replace("feet[l] != c.target[l]", "feet[l][2] != c.target[l][2]")),
+    ("a step keeps start's mark", "judge.rs", KEPT, KEPT.replace("_start, last", "last, _last")),
+    ("a step keeps its target's mark", "judge.rs", KEPT, KEPT.replace("last, _target", "_last, last")),
+    ("a step leaves its last marks", "entries.rs", AFTER, AFTER.replace("new, c.marks[2]", "c.marks[1], c.marks[2]")),
+    ("a step answers its last marks", "entries.rs", AFTER, AFTER.replace("&[new", "&[c.marks[1]")),
+    ("a step changes start's marks", "entries.rs", AFTER, AFTER.replace("c.marks[0]", "new")),
+    ("a step changes its target's marks", "entries.rs", AFTER, AFTER.replace("c.marks[2]", "0")),
+    ("no step clears marks", "entries.rs", "self.mark == NO_MARK && self.lifted == NO_MARKS", "self.mark == NO_MARK && self.lifted == 0"),
+    ("even pace goes on for a mark", "judge.rs", "if last == target {", "if last == target && (source || (c.marks[1] ^ c.marks[2]) >> l & 1 == 0) {"),
+    ("a planned foot has relaxed's mark", "entries.rs", "let planned_marks = i.marks(0);", "let planned_marks = (0..6).map(|l| i.marks(is_lifted(i.tripod, l) as usize) & 1 << l).sum::<u32>();"),
+    ("a planned foot is lifted", "entries.rs", "let planned_marks = i.marks(0);", "let planned_marks = (0..6).map(|l| (is_lifted(i.tripod, l) as u32) << l).sum::<u32>();"),
+    ("forward kinematics lifts feet", "entries.rs", "is_at(&out, &ours) && lifted == 0", "is_at(&out, &ours) && lifted == 63"),
     # lent rows
     ("surplus points not looked at", "entries.rs", "18 + 3 * i.count.min(64)", "18 + 3 * i.count.min(6)"),
     ("the last of 64 points left out", "entries.rs", "18 + 3 * i.count.min(64)", "18 + 3 * i.count.min(63)"),

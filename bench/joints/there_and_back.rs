@@ -6,15 +6,15 @@
 #[path = "../rust/reference.rs"]
 mod reference;
 
-use reference::{forward, inverse_strict, Angles, Config, LegConfig, Point};
+use reference::{forward, inverse_strict, Angles, Config, Foot, LegConfig, Point};
 
 extern "C" {
-    fn probe_ik(s: *const f32, n: usize, out: *mut f32, m: usize) -> u32;
-    fn probe_ik_strict(s: *const f32, n: usize, out: *mut f32, m: usize) -> u32;
-    fn probe_fk(s: *const f32, n: usize, out: *mut f32, m: usize) -> u32;
+    fn probe_ik(s: *const f32, n: usize, marks: u32, out: *mut f32, m: usize) -> u32;
+    fn probe_ik_strict(s: *const f32, n: usize, marks: u32, out: *mut f32, m: usize) -> u32;
+    fn probe_fk(s: *const f32, n: usize, out: *mut f32, m: usize, lifted: &mut u32) -> u32;
 }
 
-type Solver = unsafe extern "C" fn(*const f32, usize, *mut f32, usize) -> u32;
+type Solver = unsafe extern "C" fn(*const f32, usize, u32, *mut f32, usize) -> u32;
 /// A leg's configuration, and its foot.
 type Leg = ([f32; 6], [f32; 3]);
 
@@ -51,17 +51,19 @@ fn apart(legs: &[Leg; 6], feet: &[f32]) -> f64 {
     (0..6).map(foot).fold(0.0, f64::max)
 }
 
-/// How far the feet come back from where they were; none where the solver refuses or a joint is out of the table.
+/// How far the feet come back from where they were, with some marks, and all standing; none where the solver refuses or a joint is out of the table.
 fn ours(solver: Solver, body: &[f32; 5], legs: &[Leg; 6]) -> Option<f64> {
     let mut s: Vec<f32> = legs.iter().flat_map(|l| l.1).collect();
     s.extend(body);
     s.extend(legs.iter().flat_map(|l| l.0));
     let (mut joints, mut feet) = ([0.0f32; 18], [0.0f32; 18]);
-    if unsafe { solver(s.as_ptr(), 59, joints.as_mut_ptr(), 18) } != 0 || joints.iter().any(|a| !(0.0..=8.0).contains(a)) {
+    if unsafe { solver(s.as_ptr(), 59, s[0].to_bits() % 64, joints.as_mut_ptr(), 18) } != 0 || joints.iter().any(|a| !(0.0..=8.0).contains(a)) {
         return None;
     }
     let back: Vec<f32> = joints.iter().chain(s[18..].iter()).copied().collect();
-    assert_eq!(unsafe { probe_fk(back.as_ptr(), 59, feet.as_mut_ptr(), 18) }, 0);
+    let mut lifted = u32::MAX;
+    assert_eq!(unsafe { probe_fk(back.as_ptr(), 59, feet.as_mut_ptr(), 18, &mut lifted) }, 0);
+    assert_eq!(lifted, 0);
     Some(apart(legs, &feet))
 }
 
@@ -71,8 +73,8 @@ fn theirs(body: &[f32; 5], legs: &[Leg; 6]) -> Option<f64> {
     let [coxa_length, femur_length, tibia_length, femur_offset, tibia_offset] = *body;
     let each = legs.map(|(c, _)| LegConfig { position: point(&c), angle_offset: c[3], femur_correction: c[4], tibia_correction: c[5] });
     let config = Config { coxa_length, femur_length, tibia_length, femur_offset, tibia_offset, legs: each };
-    let joints: [Angles; 6] = inverse_strict(&legs.map(|l| point(&l.1)), &config).ok()?;
-    let feet: Vec<f32> = forward(&joints, &config).ok()?.iter().flat_map(|p| [p.x, p.y, p.z]).collect();
+    let joints: [Angles; 6] = inverse_strict(&legs.map(|l| Foot { point: point(&l.1), lifted: false }), &config).ok()?;
+    let feet: Vec<f32> = forward(&joints, &config).ok()?.iter().flat_map(|f| [f.point.x, f.point.y, f.point.z]).collect();
     Some(apart(legs, &feet))
 }
 

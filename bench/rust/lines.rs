@@ -3,9 +3,14 @@ mod reference;
 use reference::*;
 use std::io::{self, BufRead, Write};
 
+/// What is left of a line, and whether its rows of feet have marks.
 struct Fields<'a> {
     rest: std::str::Split<'a, char>,
+    marks: bool,
 }
+
+/// The operations that have a line with marks: its name is theirs and an m.
+const MARKED: [&str; 10] = ["merge", "sel", "upd", "mv6", "walk6", "step", "tstep", "estep", "plan", "fk"];
 
 type Parsed<T> = Option<T>;
 
@@ -34,10 +39,35 @@ impl<'a> Fields<'a> {
     fn point(&mut self) -> Parsed<Point> {
         Some(Point { x: self.float()?, y: self.float()?, z: self.float()? })
     }
+    /// A field of n bits. Of none there is no field.
+    fn bits(&mut self, n: usize) -> Parsed<Vec<bool>> {
+        if n == 0 {
+            return Some(vec![]);
+        }
+        let f = self.rest.next()?;
+        let good = f.len() == n && f.bytes().all(|b| matches!(b, b'0' | b'1'));
+        if good { Some(f.bytes().map(|b| b == b'1').collect()) } else { None }
+    }
+    /// Points, and their marks where the line has them; else they stand.
+    fn feet(&mut self, n: usize) -> Parsed<Vec<Foot>> {
+        let mut feet = vec![];
+        for _ in 0..n {
+            feet.push(Foot { point: self.point()?, lifted: false });
+        }
+        if self.marks {
+            for (foot, lifted) in feet.iter_mut().zip(self.bits(n)?) {
+                foot.lifted = lifted;
+            }
+        }
+        Some(feet)
+    }
     fn row(&mut self) -> Parsed<Row> {
-        let mut r = [ORIGIN; 6];
-        for p in r.iter_mut() {
-            *p = self.point()?;
+        self.feet(6)?.try_into().ok()
+    }
+    fn joints(&mut self) -> Parsed<[Angles; 6]> {
+        let mut r = [Angles { coxa: 0.0, femur: 0.0, tibia: 0.0 }; 6];
+        for a in r.iter_mut() {
+            *a = Angles { coxa: self.float()?, femur: self.float()?, tibia: self.float()? };
         }
         Some(r)
     }
@@ -82,8 +112,15 @@ fn point(p: &Point) -> String {
     float(p.x) + &float(p.y) + &float(p.z)
 }
 
+/// Points and, where the line has them, their marks as one field. Of none there is no field.
+fn feet(feet: &[Foot], marks: bool) -> String {
+    let points: String = feet.iter().map(|f| point(&f.point)).collect();
+    let bits: String = feet.iter().map(|f| if f.lifted { '1' } else { '0' }).collect();
+    if marks && !feet.is_empty() { points + " " + &bits } else { points }
+}
+
 fn row(r: &Row) -> String {
-    r.iter().map(point).collect()
+    feet(r, false)
 }
 
 fn told<T>(r: Result<T, Refusal>, say: impl Fn(T) -> String) -> String {
@@ -93,8 +130,8 @@ fn told<T>(r: Result<T, Refusal>, say: impl Fn(T) -> String) -> String {
     }
 }
 
-fn marked(r: Result<(Row, bool), Refusal>, yes: &str, no: &str) -> String {
-    told(r, |(f, m)| format!(" {}{}", if m { yes } else { no }, row(&f)))
+fn lettered(r: Result<(Row, bool), Refusal>, yes: &str, no: &str, marks: bool) -> String {
+    told(r, |(f, m)| format!(" {}{}", if m { yes } else { no }, feet(&f, marks)))
 }
 
 /// The fields of a command, as a line has them.
@@ -217,8 +254,11 @@ fn on_commands(name: &str, f: &mut Fields) -> Parsed<String> {
 }
 
 fn answer(line: &str) -> Parsed<String> {
-    let mut f = Fields { rest: line.split(' ') };
-    let name = f.rest.next()?;
+    let mut f = Fields { rest: line.split(' '), marks: false };
+    let word = f.rest.next()?;
+    let name = word.strip_suffix('m').filter(|name| MARKED.contains(name)).unwrap_or(word);
+    f.marks = name != word;
+    let marks = f.marks;
     Some(match name {
         "abs" | "sqrt" | "sin" | "cos" | "acos" => {
             let x = f.float()?;
@@ -245,28 +285,24 @@ fn answer(line: &str) -> Parsed<String> {
         "sel" => {
             let (m, r) = (f.short()?, f.row()?);
             f.done()?;
-            told(selected_legs(&r, m), |(n, ps)| format!(" {n}") + &ps[..n].iter().map(point).collect::<String>())
+            told(selected_legs(&r, m), |(n, fs)| format!(" {n}") + &feet(&fs[..n], marks))
         }
         "upd" => {
             let (m, n) = (f.short()?, f.short()?);
             if n > 64 {
                 return None;
             }
-            let mut vs = vec![];
-            for _ in 0..n {
-                vs.push(f.point()?);
-            }
-            let feet = f.row()?;
+            let (vs, r) = (f.feet(n as usize)?, f.row()?);
             f.done()?;
-            match updated_from_selected_legs(&feet, &vs, m) {
-                Ok(r) => "ok".to_string() + &row(&r),
-                Err(n) => format!("R {n} row") + &row(&feet),
+            match updated_from_selected_legs(&r, &vs, m) {
+                Ok(after) => "ok".to_string() + &feet(&after, marks),
+                Err(n) => format!("R {n} row") + &feet(&r, marks),
             }
         }
         "merge" => {
             let (m, a, b) = (f.short()?, f.row()?, f.row()?);
             f.done()?;
-            told(merge_with(&a, &b, m), |r| row(&r))
+            told(merge_with(&a, &b, m), |r| feet(&r, marks))
         }
         "mv" => {
             let (l, t, m) = (f.point()?, f.point()?, f.float()?);
@@ -276,7 +312,7 @@ fn answer(line: &str) -> Parsed<String> {
         "mv6" => {
             let (l, t, m) = (f.row()?, f.row()?, f.float()?);
             f.done()?;
-            marked(move_feet_towards(&l, &t, m), "M", "A")
+            lettered(move_feet_towards(&l, &t, m), "M", "A", marks)
         }
         "walk" => {
             let (m, s, t) = (f.float()?, f.point()?, f.point()?);
@@ -286,7 +322,7 @@ fn answer(line: &str) -> Parsed<String> {
         "walk6" => {
             let (m, s, t) = (f.float()?, f.row()?, f.row()?);
             f.done()?;
-            told(walk_feet(m, &s, &t), |(n, r)| format!(" {n}") + &row(&r))
+            told(walk_feet(m, &s, &t), |(n, r)| format!(" {n}") + &feet(&r, marks))
         }
         "ldist" => {
             let (a, b) = (f.row()?, f.row()?);
@@ -302,7 +338,7 @@ fn answer(line: &str) -> Parsed<String> {
             let (s, l, t) = (f.row()?, f.row()?, f.row()?);
             let (m, h, tri, b) = (f.float()?, f.float()?, f.tripod()?, f.bit()?);
             f.done()?;
-            marked(step(&s, &l, &t, m, h, tri, b), "S", "N")
+            lettered(step(&s, &l, &t, m, h, tri, b), "S", "N", marks)
         }
         "tstep" | "estep" => {
             let (s, l, t) = (f.row()?, f.row()?, f.row()?);
@@ -310,7 +346,7 @@ fn answer(line: &str) -> Parsed<String> {
             let (e, p) = (f.time()?, f.time()?);
             f.done()?;
             let r = if name == "tstep" { timed_step(&s, &l, &t, &lift, &e, &p) } else { even_step(&s, &l, &t, &lift, &e, &p) };
-            marked(r, "S", "N")
+            lettered(r, "S", "N", marks)
         }
         "should" => {
             let c = f.command()?;
@@ -320,7 +356,7 @@ fn answer(line: &str) -> Parsed<String> {
         "plan" => {
             let (s, r, tri, c) = (f.row()?, f.row()?, f.tripod()?, f.command()?);
             f.done()?;
-            told(plan(&s, &r, tri, &c), |r| row(&r))
+            told(plan(&s, &r, tri, &c), |r| feet(&r, marks))
         }
         "ik" | "iks" => {
             let (r, c) = (f.row()?, f.config()?);
@@ -332,10 +368,9 @@ fn answer(line: &str) -> Parsed<String> {
             }
         }
         "fk" => {
-            let (r, c) = (f.row()?, f.config()?);
+            let (joints, c) = (f.joints()?, f.config()?);
             f.done()?;
-            let joints = r.map(|p| Angles { coxa: p.x, femur: p.y, tibia: p.z });
-            told(forward(&joints, &c), |r| row(&r))
+            told(forward(&joints, &c), |r| feet(&r, marks))
         }
         "inv" | "flag" => {
             let t = f.tripod()?;

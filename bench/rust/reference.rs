@@ -12,10 +12,19 @@ pub struct Point {
     pub z: f32,
 }
 
-/// Six points: left front, right front, left middle, right middle, left rear, right rear.
-pub type Row = [Point; 6];
+/// Where a foot is, and whether it is lifted; one that is not stands (request K12).
+#[derive(Clone, Copy, Debug, PartialEq)]
+pub struct Foot {
+    pub point: Point,
+    pub lifted: bool,
+}
+
+/// Six feet: left front, right front, left middle, right middle, left rear, right rear.
+pub type Row = [Foot; 6];
 
 pub const ORIGIN: Point = Point { x: 0.0, y: 0.0, z: 0.0 };
+/// A place of a row in which there is no foot.
+pub const UNUSED: Foot = Foot { point: ORIGIN, lifted: false };
 /// The bit of each leg of the row.
 pub const WEIGHT: [u32; 6] = [1, 8, 2, 16, 4, 32];
 pub const LRL: u32 = 21;
@@ -64,8 +73,8 @@ impl Door {
     }
     #[inline(always)]
     pub fn row(&mut self, limit: &Limit, r: &Row) {
-        for p in r {
-            self.point(limit, p);
+        for f in r {
+            self.point(limit, &f.point);
         }
     }
     #[inline(always)]
@@ -154,7 +163,7 @@ pub fn selected_legs(feet: &Row, mask: u32) -> Result<(usize, Row), Refusal> {
     if mask > 63 {
         return Err(4);
     }
-    let mut r = [ORIGIN; 6];
+    let mut r = [UNUSED; 6];
     let mut n = 0;
     for l in 0..6 {
         if mask & WEIGHT[l] != 0 {
@@ -165,11 +174,11 @@ pub fn selected_legs(feet: &Row, mask: u32) -> Result<(usize, Row), Refusal> {
     Ok((n, r))
 }
 
-pub fn updated_from_selected_legs(feet: &Row, values: &[Point], mask: u32) -> Result<Row, Refusal> {
+pub fn updated_from_selected_legs(feet: &Row, values: &[Foot], mask: u32) -> Result<Row, Refusal> {
     let mut d = Door::new();
     d.row(&FOOT, feet);
-    for p in values {
-        d.point(&FOOT, p);
+    for f in values {
+        d.point(&FOOT, &f.point);
     }
     d.open()?;
     if mask > 63 {
@@ -225,12 +234,13 @@ pub fn move_towards(last: &Point, target: &Point, max_move: f32) -> Result<(Poin
     Ok(towards(last, target, max_move))
 }
 
+/// The feet keep the marks that they had last.
 fn row_towards(last: &Row, target: &Row, max_move: f32) -> (Row, bool) {
     let mut r = *last;
     let mut moved = false;
     for l in 0..6 {
-        let (p, m) = towards(&last[l], &target[l], max_move);
-        r[l] = p;
+        let (p, m) = towards(&last[l].point, &target[l].point, max_move);
+        r[l].point = p;
         moved |= m;
     }
     (r, moved)
@@ -250,7 +260,7 @@ pub fn longest_distance(a: &Row, b: &Row) -> Result<f32, Refusal> {
     d.row(&FOOT, a);
     d.row(&FOOT, b);
     d.open()?;
-    Ok((0..6).map(|l| distance(&a[l], &b[l])).fold(f32::NAN, f32::max))
+    Ok((0..6).map(|l| distance(&a[l].point, &b[l].point)).fold(f32::NAN, f32::max))
 }
 
 fn walked(max_move: f32, start: &Point, target: &Point) -> (u32, Point) {
@@ -363,7 +373,7 @@ pub fn even_progress(elapsed: &Time, period: &Time) -> Result<f32, Refusal> {
 
 #[inline(always)]
 fn longest_horizontal(a: &Row, b: &Row) -> f32 {
-    (0..6).map(|l| horizontal(&a[l], &b[l])).max_by(|a, b| a.partial_cmp(b).unwrap()).unwrap_or_default()
+    (0..6).map(|l| horizontal(&a[l].point, &b[l].point)).max_by(|a, b| a.partial_cmp(b).unwrap()).unwrap_or_default()
 }
 
 #[inline(always)]
@@ -385,13 +395,18 @@ fn step_lifted_leg(start: &Point, last: &Point, target: &Point, height: f32, pro
     )
 }
 
+/// A leg of the lifted tripod that moved is lifted, unless it came to its target; every other keeps its mark.
 fn shift_legs(start: &Row, last: &Row, target: &Row, height: f32, descent: f32, lifted: u32, progress: f32, aggressive: bool) -> (Row, bool) {
     let mut r = *last;
     let mut moved = false;
     for l in 0..6 {
-        let h = if lifted & WEIGHT[l] != 0 { height } else { descent };
-        let (p, m) = step_lifted_leg(&start[l], &last[l], &target[l], h, progress, aggressive);
-        r[l] = p;
+        let in_tripod = lifted & WEIGHT[l] != 0;
+        let h = if in_tripod { height } else { descent };
+        let (p, m) = step_lifted_leg(&start[l].point, &last[l].point, &target[l].point, h, progress, aggressive);
+        r[l].point = p;
+        if in_tripod && m {
+            r[l].lifted = p != target[l].point;
+        }
         moved |= m;
     }
     (r, moved)
@@ -479,6 +494,7 @@ fn between(a: (f32, f32), b: (f32, f32)) -> f32 {
     (a.0 * b.1 - a.1 * b.0).atan2(a.0 * b.0 + a.1 * b.1)
 }
 
+/// The planned feet have the marks of start.
 pub fn plan(start: &Row, relaxed: &Row, lifted: u32, c: &Command) -> Result<Row, Refusal> {
     let mut d = Door::new();
     d.row(&FOOT, start);
@@ -493,22 +509,26 @@ pub fn plan(start: &Row, relaxed: &Row, lifted: u32, c: &Command) -> Result<Row,
     let (centre_order, row_order): ([usize; 3], [usize; 3]) = if lifted == LRL { ([2, 1, 5], [1, 2, 5]) } else { ([0, 4, 3], [0, 3, 4]) };
     let centre = |r: &Row| {
         let [a, b, e] = centre_order;
-        ((r[a].x + r[b].x + r[e].x) / 3.0, (r[a].y + r[b].y + r[e].y) / 3.0)
+        let [a, b, e] = [&r[a].point, &r[b].point, &r[e].point];
+        ((a.x + b.x + e.x) / 3.0, (a.y + b.y + e.y) / 3.0)
     };
     let from = centre(start);
     let to = centre(relaxed);
     let shift = (to.0 - from.0, to.1 - from.1);
-    let angle = |l: usize| between((start[l].x - from.0, start[l].y - from.1), (relaxed[l].x, relaxed[l].y));
+    let angle = |l: usize| {
+        let (p, q) = (&start[l].point, &relaxed[l].point);
+        between((p.x - from.0, p.y - from.1), (q.x, q.y))
+    };
     let [a, b, e] = row_order;
     let average = (angle(a) + angle(b) + angle(e)) / 3.0;
     let correcting = about_z(average + (-c.rotation / 2.0));
     let mut r = *start;
     for l in 0..6 {
-        r[l] = if lifted & WEIGHT[l] != 0 {
-            let p = &relaxed[l];
+        r[l].point = if lifted & WEIGHT[l] != 0 {
+            let p = &relaxed[l].point;
             turned(&turn, &Point { x: p.x + c.x, y: p.y + c.y, z: p.z + 0.0 })
         } else {
-            let p = &start[l];
+            let p = &start[l].point;
             turned(&correcting, &Point { x: p.x + shift.0 - c.x, y: p.y + shift.1 - c.y, z: p.z + 0.0 - 0.0 })
         };
     }
@@ -604,7 +624,7 @@ pub fn inverse(feet: &Row, config: &Config) -> Result<[Angles; 6], LegRefusal> {
     let_in(feet, config)?;
     let mut r = [Angles { coxa: 0.0, femur: 0.0, tibia: 0.0 }; 6];
     for l in 0..6 {
-        r[l] = ik_leg(&feet[l], config, &config.legs[l]).map_err(|n| (n, Some(l)))?.0;
+        r[l] = ik_leg(&feet[l].point, config, &config.legs[l]).map_err(|n| (n, Some(l)))?.0;
     }
     Ok(r)
 }
@@ -614,7 +634,7 @@ pub fn inverse_strict(feet: &Row, config: &Config) -> Result<[Angles; 6], LegRef
     let_in(feet, config)?;
     let (mut r, mut far) = ([Angles { coxa: 0.0, femur: 0.0, tibia: 0.0 }; 6], [0.0; 6]);
     for l in 0..6 {
-        (r[l], far[l]) = ik_leg(&feet[l], config, &config.legs[l]).map_err(|n| (n, Some(l)))?;
+        (r[l], far[l]) = ik_leg(&feet[l].point, config, &config.legs[l]).map_err(|n| (n, Some(l)))?;
     }
     for l in 0..6 {
         if far[l] > config.femur_length + config.tibia_length {
@@ -644,6 +664,7 @@ fn fk_leg(m: &Angles, body: &Config, leg: &LegConfig) -> Point {
     Point { x: p.x + c.0 + f.0 + t.0, y: p.y + c.1 + f.1 + t.1, z: p.z + c.2 + f.2 + t.2 }
 }
 
+/// All six stand.
 pub fn forward(joints: &[Angles; 6], config: &Config) -> Result<Row, Refusal> {
     let mut d = Door::new();
     for a in joints {
@@ -653,9 +674,9 @@ pub fn forward(joints: &[Angles; 6], config: &Config) -> Result<Row, Refusal> {
     }
     config.seen(&mut d);
     d.open()?;
-    let mut r = [ORIGIN; 6];
+    let mut r = [UNUSED; 6];
     for l in 0..6 {
-        r[l] = fk_leg(&joints[l], config, &config.legs[l]);
+        r[l].point = fk_leg(&joints[l], config, &config.legs[l]);
     }
     Ok(r)
 }

@@ -1,6 +1,6 @@
 // Times the proved library and the plain Rust reading side by side: same inputs, same run, one thread.
 // Both sides have the same shape at the boundary: a call that is not inlined, numbers and rows of floats in, a stored
-// answer out, every number looked at. A line an operation: nanoseconds of ours, of Rust's, the ratio, the goal. The first word
+// answer out, every number looked at; the marks of feet in the bits of a number, six a row, in and out. A line an operation: nanoseconds of ours, of Rust's, the ratio, the goal. The first word
 // is the number of rounds, the second, for a profile or a count, the one operation to run, the third the one side: ours or Rust.
 mod reference;
 use reference::*;
@@ -15,19 +15,71 @@ mod ours {
         pub fn probe_arc_cosine(x: f32, out: &mut f32) -> u32;
         pub fn probe_atan2(y: f32, x: f32, out: &mut f32) -> u32;
         pub fn probe_move(s: *const f32, n: usize, out: *mut f32, m: usize) -> u32;
-        pub fn probe_move_feet(s: *const f32, n: usize, out: *mut f32, m: usize) -> u32;
-        pub fn probe_longest_distance(s: *const f32, n: usize, out: &mut f32) -> u32;
+        pub fn probe_move_feet(s: *const f32, n: usize, marks: u32, out: *mut f32, m: usize, lifted: &mut u32) -> u32;
+        pub fn probe_longest_distance(s: *const f32, n: usize, marks: u32, out: &mut f32) -> u32;
         pub fn probe_walk(s: *const f32, n: usize) -> u64;
-        pub fn probe_walk_feet(s: *const f32, n: usize) -> u64;
+        pub fn probe_walk_feet(s: *const f32, n: usize, marks: u32) -> u64;
+        pub fn probe_merge(s: *const f32, n: usize, marks: u32, mask: u32, out: *mut f32, m: usize, lifted: &mut u32) -> u32;
+        pub fn probe_select(s: *const f32, n: usize, marks: u32, mask: u32, out: *mut f32, m: usize, len: &mut usize, lifted: &mut u32) -> u32;
+        pub fn probe_update(
+            s: *const f32,
+            n: usize,
+            marks: u32,
+            values: *const f32,
+            v: usize,
+            lent: u64,
+            first: usize,
+            mask: u32,
+            out: *mut f32,
+            m: usize,
+            lifted: &mut u32,
+        ) -> u32;
         pub fn probe_timed_progress(es: u64, en: u32, ps: u64, pn: u32, out: &mut f32) -> u32;
         pub fn probe_even_progress(es: u64, en: u32, ps: u64, pn: u32, out: &mut f32) -> u32;
-        pub fn probe_step(s: *const f32, n: usize, t: u32, a: u32, out: *mut f32, m: usize) -> u32;
-        pub fn probe_timed_step(s: *const f32, n: usize, t: u32, a: u32, es: u64, en: u32, ps: u64, pn: u32, out: *mut f32, m: usize) -> u32;
-        pub fn probe_even_step(s: *const f32, n: usize, t: u32, a: u32, es: u64, en: u32, ps: u64, pn: u32, out: *mut f32, m: usize) -> u32;
-        pub fn probe_plan(s: *const f32, n: usize, t: u32, a: u32, seconds: u64, nanoseconds: u32, out: *mut f32, m: usize) -> u32;
-        pub fn probe_ik(s: *const f32, n: usize, out: *mut f32, m: usize) -> u32;
-        pub fn probe_ik_strict(s: *const f32, n: usize, out: *mut f32, m: usize) -> u32;
-        pub fn probe_fk(s: *const f32, n: usize, out: *mut f32, m: usize) -> u32;
+        pub fn probe_step(s: *const f32, n: usize, marks: u32, t: u32, a: u32, out: *mut f32, m: usize, lifted: &mut u32) -> u32;
+        pub fn probe_timed_step(
+            s: *const f32,
+            n: usize,
+            marks: u32,
+            t: u32,
+            a: u32,
+            es: u64,
+            en: u32,
+            ps: u64,
+            pn: u32,
+            out: *mut f32,
+            m: usize,
+            lifted: &mut u32,
+        ) -> u32;
+        pub fn probe_even_step(
+            s: *const f32,
+            n: usize,
+            marks: u32,
+            t: u32,
+            a: u32,
+            es: u64,
+            en: u32,
+            ps: u64,
+            pn: u32,
+            out: *mut f32,
+            m: usize,
+            lifted: &mut u32,
+        ) -> u32;
+        pub fn probe_plan(
+            s: *const f32,
+            n: usize,
+            marks: u32,
+            t: u32,
+            a: u32,
+            seconds: u64,
+            nanoseconds: u32,
+            out: *mut f32,
+            m: usize,
+            lifted: &mut u32,
+        ) -> u32;
+        pub fn probe_ik(s: *const f32, n: usize, marks: u32, out: *mut f32, m: usize) -> u32;
+        pub fn probe_ik_strict(s: *const f32, n: usize, marks: u32, out: *mut f32, m: usize) -> u32;
+        pub fn probe_fk(s: *const f32, n: usize, out: *mut f32, m: usize, lifted: &mut u32) -> u32;
     }
 }
 
@@ -68,23 +120,39 @@ mod theirs {
     pub fn point(s: &[f32], at: usize) -> Point {
         Point { x: s[at], y: s[at + 1], z: s[at + 2] }
     }
+    /// A row of feet with the lowest six of the marks.
     #[inline(always)]
-    pub fn row(s: &[f32], at: usize) -> Row {
-        std::array::from_fn(|l| point(s, at + 3 * l))
+    pub fn row(s: &[f32], at: usize, marks: u32) -> Row {
+        std::array::from_fn(|l| Foot { point: point(s, at + 3 * l), lifted: marks >> l & 1 != 0 })
     }
     #[inline(always)]
-    fn store(r: &Row, out: &mut [f32]) {
+    fn store_point(p: &Point, out: &mut [f32]) {
+        out[0] = p.x;
+        out[1] = p.y;
+        out[2] = p.z;
+    }
+    #[inline(always)]
+    fn store(r: &Row, out: &mut [f32], lifted: &mut u32) {
         for l in 0..6 {
-            out[3 * l] = r[l].x;
-            out[3 * l + 1] = r[l].y;
-            out[3 * l + 2] = r[l].z;
+            store_point(&r[l].point, &mut out[3 * l..]);
+        }
+        *lifted = (0..6).map(|l| (r[l].lifted as u32) << l).sum();
+    }
+    #[inline(always)]
+    fn answered(r: Result<Row, u32>, out: &mut [f32], lifted: &mut u32) -> u32 {
+        match r {
+            Ok(r) => {
+                store(&r, out, lifted);
+                0
+            }
+            Err(n) => n,
         }
     }
     #[inline(always)]
-    fn marked(r: Result<(Row, bool), u32>, out: &mut [f32]) -> u32 {
+    fn moved(r: Result<(Row, bool), u32>, out: &mut [f32], lifted: &mut u32) -> u32 {
         match r {
             Ok((r, moved)) => {
-                store(&r, out);
+                store(&r, out, lifted);
                 256 * moved as u32
             }
             Err(n) => n,
@@ -94,29 +162,48 @@ mod theirs {
     pub fn one_move(s: &[f32], out: &mut [f32]) -> u32 {
         match move_towards(&point(s, 0), &point(s, 3), s[6]) {
             Ok((p, m)) => {
-                out[0] = p.x;
-                out[1] = p.y;
-                out[2] = p.z;
+                store_point(&p, out);
                 256 * m as u32
             }
             Err(n) => n,
         }
     }
     #[inline(never)]
-    pub fn six_moves(s: &[f32], out: &mut [f32]) -> u32 {
-        marked(move_feet_towards(&row(s, 0), &row(s, 18), s[36]), out)
+    pub fn six_moves(s: &[f32], marks: u32, out: &mut [f32], lifted: &mut u32) -> u32 {
+        moved(move_feet_towards(&row(s, 0, marks), &row(s, 18, marks >> 6), s[36]), out, lifted)
     }
     #[inline(never)]
-    pub fn longest(s: &[f32], out: &mut f32) -> u32 {
-        stored(longest_distance(&row(s, 0), &row(s, 18)), out)
+    pub fn longest(s: &[f32], marks: u32, out: &mut f32) -> u32 {
+        stored(longest_distance(&row(s, 0, marks), &row(s, 18, marks >> 6)), out)
     }
     #[inline(never)]
     pub fn one_walk(s: &[f32]) -> u64 {
         walk(s[6], &point(s, 0), &point(s, 3)).map_or_else(|n| (n as u64) << 32, |(n, _)| n as u64)
     }
     #[inline(never)]
-    pub fn six_walks(s: &[f32]) -> u64 {
-        walk_feet(s[36], &row(s, 0), &row(s, 18)).map_or_else(|n| (n as u64) << 32, |(n, _)| n as u64)
+    pub fn six_walks(s: &[f32], marks: u32) -> u64 {
+        walk_feet(s[36], &row(s, 0, marks), &row(s, 18, marks >> 6)).map_or_else(|n| (n as u64) << 32, |(n, _)| n as u64)
+    }
+    #[inline(never)]
+    pub fn merge(s: &[f32], marks: u32, mask: u32, out: &mut [f32], lifted: &mut u32) -> u32 {
+        answered(merge_with(&row(s, 0, marks), &row(s, 18, marks >> 6), mask), out, lifted)
+    }
+    #[inline(never)]
+    pub fn select(s: &[f32], marks: u32, mask: u32, out: &mut [f32], len: &mut usize, lifted: &mut u32) -> u32 {
+        match selected_legs(&row(s, 0, marks), mask) {
+            Ok((n, r)) => {
+                *len = n;
+                store(&r, out, lifted);
+                0
+            }
+            Err(n) => n,
+        }
+    }
+    /// Of 64 feet the first n are lent.
+    #[inline(never)]
+    pub fn update(s: &[f32], marks: u32, values: &[f32], lent: u64, n: usize, mask: u32, out: &mut [f32], lifted: &mut u32) -> u32 {
+        let values: [Foot; 64] = std::array::from_fn(|i| Foot { point: point(values, 3 * i), lifted: lent >> i & 1 != 0 });
+        answered(updated_from_selected_legs(&row(s, 0, marks), &values[..n.min(64)], mask), out, lifted)
     }
     #[inline(never)]
     pub fn progress_timed(e: Time, p: Time, out: &mut f32) -> u32 {
@@ -129,30 +216,32 @@ mod theirs {
     fn tripod(t: u32) -> u32 {
         if t == 0 { LRL } else { RLR }
     }
-    #[inline(never)]
-    pub fn by_distance(s: &[f32], t: u32, a: u32, out: &mut [f32]) -> u32 {
-        marked(step(&row(s, 0), &row(s, 18), &row(s, 36), s[54], s[55], tripod(t), a != 0), out)
+    /// Start, last and target.
+    #[inline(always)]
+    fn course(s: &[f32], marks: u32) -> [Row; 3] {
+        [row(s, 0, marks), row(s, 18, marks >> 6), row(s, 36, marks >> 12)]
     }
     #[inline(never)]
-    pub fn timed(s: &[f32], t: u32, a: u32, e: Time, p: Time, out: &mut [f32]) -> u32 {
+    pub fn by_distance(s: &[f32], marks: u32, t: u32, a: u32, out: &mut [f32], lifted: &mut u32) -> u32 {
+        let [start, last, target] = course(s, marks);
+        moved(step(&start, &last, &target, s[54], s[55], tripod(t), a != 0), out, lifted)
+    }
+    #[inline(never)]
+    pub fn timed(s: &[f32], marks: u32, t: u32, a: u32, e: Time, p: Time, out: &mut [f32], lifted: &mut u32) -> u32 {
         let lift = Lift { height: s[54], descent: s[55], lifted: tripod(t), aggressive: a != 0 };
-        marked(timed_step(&row(s, 0), &row(s, 18), &row(s, 36), &lift, &e, &p), out)
+        let [start, last, target] = course(s, marks);
+        moved(timed_step(&start, &last, &target, &lift, &e, &p), out, lifted)
     }
     #[inline(never)]
-    pub fn even(s: &[f32], t: u32, a: u32, e: Time, p: Time, out: &mut [f32]) -> u32 {
+    pub fn even(s: &[f32], marks: u32, t: u32, a: u32, e: Time, p: Time, out: &mut [f32], lifted: &mut u32) -> u32 {
         let lift = Lift { height: s[54], descent: s[55], lifted: tripod(t), aggressive: a != 0 };
-        marked(even_step(&row(s, 0), &row(s, 18), &row(s, 36), &lift, &e, &p), out)
+        let [start, last, target] = course(s, marks);
+        moved(even_step(&start, &last, &target, &lift, &e, &p), out, lifted)
     }
     #[inline(never)]
-    pub fn planned(s: &[f32], t: u32, a: u32, time: Time, out: &mut [f32]) -> u32 {
+    pub fn planned(s: &[f32], marks: u32, t: u32, a: u32, time: Time, out: &mut [f32], lifted: &mut u32) -> u32 {
         let c = Command { x: s[36], y: s[37], rotation: s[38], step_time: time, height: s[39], aggressive: a != 0 };
-        match plan(&row(s, 0), &row(s, 18), tripod(t), &c) {
-            Ok(r) => {
-                store(&r, out);
-                0
-            }
-            Err(n) => n,
-        }
+        answered(plan(&row(s, 0, marks), &row(s, 18, marks >> 6), tripod(t), &c), out, lifted)
     }
     #[inline(always)]
     fn config(s: &[f32]) -> Config {
@@ -174,30 +263,26 @@ mod theirs {
     fn solution(r: Result<[Angles; 6], LegRefusal>, out: &mut [f32]) -> u32 {
         match r {
             Ok(r) => {
-                store(&r.map(|a| Point { x: a.coxa, y: a.femur, z: a.tibia }), out);
+                for l in 0..6 {
+                    store_point(&Point { x: r[l].coxa, y: r[l].femur, z: r[l].tibia }, &mut out[3 * l..]);
+                }
                 0
             }
             Err((n, leg)) => n + 256 * leg.unwrap_or(0) as u32,
         }
     }
     #[inline(never)]
-    pub fn ik(s: &[f32], out: &mut [f32]) -> u32 {
-        solution(inverse(&row(s, 0), &config(s)), out)
+    pub fn ik(s: &[f32], marks: u32, out: &mut [f32]) -> u32 {
+        solution(inverse(&row(s, 0, marks), &config(s)), out)
     }
     #[inline(never)]
-    pub fn ik_strict(s: &[f32], out: &mut [f32]) -> u32 {
-        solution(inverse_strict(&row(s, 0), &config(s)), out)
+    pub fn ik_strict(s: &[f32], marks: u32, out: &mut [f32]) -> u32 {
+        solution(inverse_strict(&row(s, 0, marks), &config(s)), out)
     }
     #[inline(never)]
-    pub fn fk(s: &[f32], out: &mut [f32]) -> u32 {
-        let joints = row(s, 0).map(|p| Angles { coxa: p.x, femur: p.y, tibia: p.z });
-        match forward(&joints, &config(s)) {
-            Ok(r) => {
-                store(&r, out);
-                0
-            }
-            Err(n) => n,
-        }
+    pub fn fk(s: &[f32], out: &mut [f32], lifted: &mut u32) -> u32 {
+        let joints = std::array::from_fn(|l| Angles { coxa: s[3 * l], femur: s[3 * l + 1], tibia: s[3 * l + 2] });
+        answered(forward(&joints, &config(s)), out, lifted)
     }
 }
 
@@ -264,6 +349,11 @@ fn main() {
     let (mut a, mut b) = (0.0f32, 0.0f32);
     let mut row = [0.0f32; 18];
     let mut other = [0.0f32; 18];
+    let (mut lifted, mut up) = (0u32, 0u32);
+    // of their own, so that the floats stay those of earlier runs
+    let mut bits = Random(0x2545_f491_4f6c_dd1d);
+    let marks: Vec<u32> = (0..INPUTS).map(|_| (bits.next() >> 20) as u32 & 0x3_ffff).collect();
+    let masks: Vec<u32> = (0..INPUTS).map(|_| (bits.next() >> 20) as u32 & 63).collect();
     let xs = r.floats(INPUTS, 0.0, 100.0);
     // chained: each argument waits for the answer before it
     let (mut u, mut v) = (0.0f32, 0.0f32);
@@ -307,15 +397,43 @@ fn main() {
         "six moves",
         1.3,
         1.0,
-        |i| unsafe { kept(ours::probe_move_feet(feet[i].as_ptr(), 37, row.as_mut_ptr(), 18)) },
-        |i| kept(theirs::six_moves(&feet[i], &mut other)),
+        |i| unsafe { kept(ours::probe_move_feet(feet[i].as_ptr(), 37, marks[i], row.as_mut_ptr(), 18, &mut lifted)) },
+        |i| kept(theirs::six_moves(&feet[i], marks[i], &mut other, &mut up)),
     );
     both(
         "longest distance",
         1.3,
         1.0,
-        |i| unsafe { kept(ours::probe_longest_distance(feet[i].as_ptr(), 36, &mut a)) },
-        |i| kept(theirs::longest(&feet[i], &mut b)),
+        |i| unsafe { kept(ours::probe_longest_distance(feet[i].as_ptr(), 36, marks[i], &mut a)) },
+        |i| kept(theirs::longest(&feet[i], marks[i], &mut b)),
+    );
+    both(
+        "merge",
+        1.3,
+        1.0,
+        |i| unsafe { kept(ours::probe_merge(feet[i].as_ptr(), 36, marks[i], masks[i], row.as_mut_ptr(), 18, &mut lifted)) },
+        |i| kept(theirs::merge(&feet[i], marks[i], masks[i], &mut other, &mut up)),
+    );
+    let (mut n, mut m) = (0usize, 0usize);
+    both(
+        "selection",
+        1.3,
+        1.0,
+        |i| unsafe { kept(ours::probe_select(feet[i].as_ptr(), 18, marks[i], masks[i], row.as_mut_ptr(), 18, &mut n, &mut lifted)) },
+        |i| kept(theirs::select(&feet[i], marks[i], masks[i], &mut other, &mut m, &mut up)),
+    );
+    // as many feet lent as the mask names legs
+    let lent: Vec<Vec<f32>> = (0..INPUTS).map(|_| bits.floats(192, -0.4, 0.4)).collect();
+    let lent_marks: Vec<u64> = (0..INPUTS).map(|_| bits.next()).collect();
+    both(
+        "update",
+        1.3,
+        1.0,
+        |i| unsafe {
+            let n = masks[i].count_ones() as usize;
+            kept(ours::probe_update(feet[i].as_ptr(), 18, marks[i], lent[i].as_ptr(), 192, lent_marks[i], n, masks[i], row.as_mut_ptr(), 18, &mut lifted))
+        },
+        |i| kept(theirs::update(&feet[i], marks[i], &lent[i], lent_marks[i], masks[i].count_ones() as usize, masks[i], &mut other, &mut up)),
     );
     let walks: Vec<Vec<f32>> = (0..INPUTS)
         .map(|_| {
@@ -341,13 +459,13 @@ fn main() {
         |i| if i == 0 { unsafe { kept(ours::probe_walk(longest.as_ptr(), 7)) } },
         |i| if i == 0 { kept(theirs::one_walk(&longest)) },
     );
-    let steps: u64 = walks.iter().map(|s| theirs::six_walks(s)).sum();
+    let steps: u64 = walks.iter().map(|s| theirs::six_walks(s, 0)).sum();
     both(
         "six walks, each step",
         1.3,
         steps as f64 / INPUTS as f64,
-        |i| unsafe { kept(ours::probe_walk_feet(walks[i].as_ptr(), 37)) },
-        |i| kept(theirs::six_walks(&walks[i])),
+        |i| unsafe { kept(ours::probe_walk_feet(walks[i].as_ptr(), 37, marks[i])) },
+        |i| kept(theirs::six_walks(&walks[i], marks[i])),
     );
     let states: Vec<Vec<f32>> = (0..INPUTS)
         .map(|_| {
@@ -361,8 +479,8 @@ fn main() {
         "step by distance",
         1.3,
         1.0,
-        |i| unsafe { kept(ours::probe_step(states[i].as_ptr(), 56, i as u32 & 1, 0, row.as_mut_ptr(), 18)) },
-        |i| kept(theirs::by_distance(&states[i], i as u32 & 1, 0, &mut other)),
+        |i| unsafe { kept(ours::probe_step(states[i].as_ptr(), 56, marks[i], i as u32 & 1, 0, row.as_mut_ptr(), 18, &mut lifted)) },
+        |i| kept(theirs::by_distance(&states[i], marks[i], i as u32 & 1, 0, &mut other, &mut up)),
     );
     let time = |i: usize| Time { seconds: 0, nanoseconds: (i as u32 * 350_000) % 350_000_000 };
     let period = Time { seconds: 0, nanoseconds: 600_000_000 };
@@ -392,20 +510,22 @@ fn main() {
         1.3,
         1.0,
         |i| unsafe {
-            let e = time(i);
-            kept(ours::probe_timed_step(states[i].as_ptr(), 56, i as u32 & 1, 0, e.seconds, e.nanoseconds, 0, period.nanoseconds, row.as_mut_ptr(), 18))
+            let (s, e) = (states[i].as_ptr(), time(i));
+            let (out, up) = (row.as_mut_ptr(), &mut lifted);
+            kept(ours::probe_timed_step(s, 56, marks[i], i as u32 & 1, 0, e.seconds, e.nanoseconds, 0, period.nanoseconds, out, 18, up))
         },
-        |i| kept(theirs::timed(&states[i], i as u32 & 1, 0, time(i), period, &mut other)),
+        |i| kept(theirs::timed(&states[i], marks[i], i as u32 & 1, 0, time(i), period, &mut other, &mut up)),
     );
     both(
         "even step",
         1.3,
         1.0,
         |i| unsafe {
-            let e = time(i);
-            kept(ours::probe_even_step(states[i].as_ptr(), 56, i as u32 & 1, 0, e.seconds, e.nanoseconds, 0, period.nanoseconds, row.as_mut_ptr(), 18))
+            let (s, e) = (states[i].as_ptr(), time(i));
+            let (out, up) = (row.as_mut_ptr(), &mut lifted);
+            kept(ours::probe_even_step(s, 56, marks[i], i as u32 & 1, 0, e.seconds, e.nanoseconds, 0, period.nanoseconds, out, 18, up))
         },
-        |i| kept(theirs::even(&states[i], i as u32 & 1, 0, time(i), period, &mut other)),
+        |i| kept(theirs::even(&states[i], marks[i], i as u32 & 1, 0, time(i), period, &mut other, &mut up)),
     );
     // a stance: feet around the body, the relaxed ones near them
     let around = [(0.2, 0.16), (0.2, -0.16), (0.0, 0.2), (0.0, -0.2), (-0.2, 0.16), (-0.2, -0.16)];
@@ -430,8 +550,8 @@ fn main() {
         "planner",
         1.0,
         1.0,
-        |i| unsafe { kept(ours::probe_plan(plans[i].as_ptr(), 40, i as u32 & 1, 0, 0, 600_000_000, row.as_mut_ptr(), 18)) },
-        |i| kept(theirs::planned(&plans[i], i as u32 & 1, 0, period, &mut other)),
+        |i| unsafe { kept(ours::probe_plan(plans[i].as_ptr(), 40, marks[i], i as u32 & 1, 0, 0, 600_000_000, row.as_mut_ptr(), 18, &mut lifted)) },
+        |i| kept(theirs::planned(&plans[i], marks[i], i as u32 & 1, 0, period, &mut other, &mut up)),
     );
     let mut config = vec![0.052, 0.066, 0.135, 0.6, -0.4];
     for (x, y) in around {
@@ -442,8 +562,8 @@ fn main() {
         "inverse kinematics",
         1.0,
         1.0,
-        |i| unsafe { kept(ours::probe_ik(poses[i].as_ptr(), 59, row.as_mut_ptr(), 18)) },
-        |i| kept(theirs::ik(&poses[i], &mut other)),
+        |i| unsafe { kept(ours::probe_ik(poses[i].as_ptr(), 59, marks[i], row.as_mut_ptr(), 18)) },
+        |i| kept(theirs::ik(&poses[i], marks[i], &mut other)),
     );
     // one leg is turned past its limit, each leg in its turn, to either side; a rear leg's turn is permitted to one side alone
     let past: Vec<Vec<f32>> = poses
@@ -453,7 +573,7 @@ fn main() {
             let (mut s, l) = (s.clone(), i % 6);
             let leftwards = l == 4 || (l != 5 && i / 6 % 2 == 0);
             s[26 + 6 * l] += if leftwards { 2.0 } else { -2.0 };
-            assert_eq!(theirs::ik(&s, &mut [0.0; 18]), if leftwards { 6 } else { 8 } + 256 * l as u32);
+            assert_eq!(theirs::ik(&s, 0, &mut [0.0; 18]), if leftwards { 6 } else { 8 } + 256 * l as u32);
             s
         })
         .collect();
@@ -461,22 +581,22 @@ fn main() {
         "inverse kinematics, refused",
         1.0,
         1.0,
-        |i| unsafe { kept(ours::probe_ik(past[i].as_ptr(), 59, row.as_mut_ptr(), 18)) },
-        |i| kept(theirs::ik(&past[i], &mut other)),
+        |i| unsafe { kept(ours::probe_ik(past[i].as_ptr(), 59, marks[i], row.as_mut_ptr(), 18)) },
+        |i| kept(theirs::ik(&past[i], marks[i], &mut other)),
     );
-    poses.iter().for_each(|s| assert_eq!(theirs::ik_strict(s, &mut [0.0; 18]), 0));
+    poses.iter().for_each(|s| assert_eq!(theirs::ik_strict(s, 0, &mut [0.0; 18]), 0));
     both(
         "strict inverse kinematics",
         1.0,
         1.0,
-        |i| unsafe { kept(ours::probe_ik_strict(poses[i].as_ptr(), 59, row.as_mut_ptr(), 18)) },
-        |i| kept(theirs::ik_strict(&poses[i], &mut other)),
+        |i| unsafe { kept(ours::probe_ik_strict(poses[i].as_ptr(), 59, marks[i], row.as_mut_ptr(), 18)) },
+        |i| kept(theirs::ik_strict(&poses[i], marks[i], &mut other)),
     );
     let joints: Vec<Vec<f32>> = poses
         .iter()
         .map(|s| {
             let mut j = [0.0f32; 18];
-            assert_eq!(theirs::ik(s, &mut j), 0);
+            assert_eq!(theirs::ik(s, 0, &mut j), 0);
             j.iter().chain(config.iter()).copied().collect()
         })
         .collect();
@@ -484,7 +604,7 @@ fn main() {
         "forward kinematics",
         1.0,
         1.0,
-        |i| unsafe { kept(ours::probe_fk(joints[i].as_ptr(), 59, row.as_mut_ptr(), 18)) },
-        |i| kept(theirs::fk(&joints[i], &mut other)),
+        |i| unsafe { kept(ours::probe_fk(joints[i].as_ptr(), 59, row.as_mut_ptr(), 18, &mut lifted)) },
+        |i| kept(theirs::fk(&joints[i], &mut other, &mut up)),
     );
 }

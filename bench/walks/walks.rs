@@ -9,9 +9,9 @@ use reference::*;
 
 extern "C" {
     fn probe_walk(s: *const f32, n: usize) -> u64;
-    fn probe_walk_feet(s: *const f32, n: usize) -> u64;
+    fn probe_walk_feet(s: *const f32, n: usize, marks: u32) -> u64;
     fn probe_move(s: *const f32, n: usize, out: *mut f32, m: usize) -> u32;
-    fn probe_move_feet(s: *const f32, n: usize, out: *mut f32, m: usize) -> u32;
+    fn probe_move_feet(s: *const f32, n: usize, marks: u32, out: *mut f32, m: usize, lifted: &mut u32) -> u32;
 }
 
 /// A whole number below 2^256, lowest word first.
@@ -187,8 +187,9 @@ fn check(m: f32, s: &Point, t: &Point, count: u64, swings: &mut Swings) -> Resul
     Ok(())
 }
 
-/// Six feet, 36 coordinates and m: the count is the largest of the six, and the clauses hold of each foot on the way.
-fn check_six(six: &[f32], swings: &mut Swings) -> Result<(), String> {
+/// Six feet, 36 coordinates and m, with the marks of both rows: the count is the largest of the six, and the clauses hold of each
+/// foot on the way, which keeps its mark.
+fn check_six(six: &[f32], marks: u32, swings: &mut Swings) -> Result<(), String> {
     let m = six[36];
     let foot = |row: &[f32], l: usize| Point { x: row[3 * l], y: row[3 * l + 1], z: row[3 * l + 2] };
     let mut largest = 0;
@@ -197,15 +198,19 @@ fn check_six(six: &[f32], swings: &mut Swings) -> Result<(), String> {
         let one = [s.x, s.y, s.z, t.x, t.y, t.z, m];
         largest = largest.max(unsafe { probe_walk(one.as_ptr(), 7) });
     }
-    if largest != unsafe { probe_walk_feet(six.as_ptr(), 37) } {
+    if largest != unsafe { probe_walk_feet(six.as_ptr(), 37, marks) } {
         return Err("not the largest count".to_string());
     }
     let mut at = six.to_vec();
     for k in 0..largest + 2 {
         let mut out = [0.0; 18];
-        let n = unsafe { probe_move_feet(at.as_ptr(), 37, out.as_mut_ptr(), 18) };
+        let mut lifted = u32::MAX;
+        let n = unsafe { probe_move_feet(at.as_ptr(), 37, marks, out.as_mut_ptr(), 18, &mut lifted) };
         if n != if k < largest { 256 } else { 0 } {
             return Err(format!("after {k} steps the six answer {n}"));
+        }
+        if lifted != marks % 64 {
+            return Err(format!("after {k} steps a foot has another mark"));
         }
         for l in 0..6 {
             swings.point(&foot(six, l), &foot(&six[18..], l), &foot(&at, l), &foot(&out, l))?;
@@ -276,7 +281,7 @@ fn main() {
         if i % 1000 == 0 {
             let mut six: Vec<f32> = (0..36).map(|_| r.between(-3.0, 3.0)).collect();
             six.push(m);
-            if let Err(why) = check_six(&six, &mut swings) {
+            if let Err(why) = check_six(&six, (i / 1000 * 2731 % 4096) as u32, &mut swings) {
                 failed += 1;
                 println!("six feet: {why}");
             }

@@ -1,4 +1,4 @@
--- p1 to p12 and k5 hold: p8 for all permitted feet, by what the masks 0 and 63 name, the others by computation.
+-- p1 to p12, k5 and k12 hold: p8 for all permitted feet, by what the masks 0 and 63 name, the others by computation.
 use mathlib.Core.Path.{_≡_, refl}
 use mathlib.Core.Bool.{true, false}
 use Prim.Native.Nat.{ℕ}
@@ -24,8 +24,9 @@ use Rattle.walks.proofs.Examples.{p6, p7}
 use Rattle.commands.specs.Constants.{one}
 use Rattle.commands.specs.Times.{elapsedPermitted, periodPermitted, wholeNumber, inSeconds}
 use Rattle.steps.specs.Progress.{timedProgress, evenProgress}
-use Rattle.steps.specs.Leg.{stepLiftedLeg}
+use Rattle.steps.specs.Leg.{half, halfTurn, stepLiftedLeg}
 use Rattle.steps.specs.Shift.{shiftLegs}
+use Rattle.steps.specs.Marks.{markAfter, stepped}
 use Rattle.steps.specs.Next.{evenAt, nextEven}
 use Rattle.steps.specs.Refusals.{progressRefusal, liftRefusal}
 use Rattle.steps.specs.Entries.{timedProgressTold, evenProgressTold, nextEvenTold}
@@ -53,7 +54,7 @@ pub all-hold : Hold cases
 unfolding moveTold moveRefusal moveTowards stepAt same nearer along component distance squareSum squareRoot walkRefusal
     mergeTold mergeRefusal merged updateTold updateRefusal updated everyPoint ones finitePoint permittedPoint finite
     timedProgressTold evenProgressTold timedProgress evenProgress progressRefusal elapsedPermitted periodPermitted wholeNumber inSeconds
-    nextEvenTold nextEven evenAt liftRefusal shiftLegs stepLiftedLeg hasMoved pointOf one
+    nextEvenTold nextEven evenAt liftRefusal shiftLegs stepped markAfter stepLiftedLeg hasMoved pointOf one half halfTurn
     footLimit maxMove direction walkFoot walkMove over minus round ofBits add sub mul div le eq
 all-hold =
     -- p1 to p5
@@ -63,8 +64,9 @@ all-hold =
     -- p7, p8
     and (2, refl, λ _. p7)
     and none-merged and all-merged
-    -- p9; p10, p11 and p12; k5
+    -- p9; p10, p11 and p12; k5 and k12
     and refl
     and refl and refl and refl and refl and refl
     and refl
+    and refl and refl
     and tt

@@ -1,12 +1,14 @@
--- Document 01, "Cases to prove (p1 to p12)", and request K5's: one list, one statement. Lengths are metres.
+-- Document 01, "Cases to prove (p1 to p12)", and those of requests K5 and K12: one list, one statement. Lengths are metres.
 use mathlib.Core.Path.{_≡_}
 use mathlib.Core.Bool.{true, false}
 use mathlib.Core.List.{List, [], _∷_}
 use Prim.Native.Nat.{ℕ, _^_}
 use lib.Ieee.{Float, nan}
+use lib.ListN.{take}
 use Rattle.numbers.specs.Told.{Told, given, refused}
 use Rattle.numbers.specs.Limits.{over, minus, footLimit}
 use Rattle.legs.specs.Legs.{feet, coordinates, permittedFeet}
+use Rattle.legs.specs.declared.Foot.{Foot}
 use Rattle.legs.specs.Flags.{lrlTripod}
 use Rattle.legs.specs.Answers.{givenFeet}
 use Rattle.legs.specs.Merge.{mergeTold}
@@ -22,12 +24,15 @@ use Rattle.legs.specs.declared.Point.{Point}
 use Rattle.legs.specs.declared.Feet.{Feet}
 use Rattle.commands.specs.declared.Time.{Time}
 
--- (a, b, 0), and six feet at one point
+-- (a, b, 0), and six feet that stand at one point
 abbrev at : Float → Float → Point
 at a b = record { x = a; y = b; z = over 0 1 }
 
+abbrev standing : Point → Foot
+standing p = record { point = p; lifted = false }
+
 abbrev all : Point → Feet
-all p = feet (λ l. p)
+all p = feet (λ l. standing p)
 
 abbrev zero : Float
 zero = over 0 1
@@ -82,7 +87,23 @@ paced from to =
 
 abbrev movedTo : Point → Point → Point → Told
 movedTo from to p =
-    givenStep (all p) (liftMarks lift (nanoseconds 500000000)) (liftValues lift (all from) (all p) (all to))
+    givenStep (all p)
+    (liftMarks lift (nanoseconds 500000000) (all from) (all p) (all to))
+    (liftValues lift (all from) (all p) (all to))
+
+-- such a step from (0,0,0) to (1/4,0,0) after so many nanoseconds: that there is one, and the marks of its feet in row order
+abbrev striding : ℕ → List ℕ
+striding n =
+    take 7
+    (nextEvenTold
+    (record {
+      start = all start;
+      last = all start;
+      target = all quarter;
+      period = nanoseconds 500000000;
+      lift = lift;
+    })
+    (nanoseconds n) .marks)
 
 -- (0.2, 0.1), 4 mm up and down
 abbrev lifted : Point
@@ -112,7 +133,7 @@ cases =
     ∷ Merges 0 (λ a b. a)
     ∷ Merges 63 (λ a b. b)
     -- p9 mask of LRL_TRIPOD, two values: refusal 5
-    ∷ (updateTold (all start) (quarter ∷ quarter ∷ []) lrlTripod ≡ refused 5)
+    ∷ (updateTold (all start) (standing quarter ∷ standing quarter ∷ []) lrlTripod ≡ refused 5)
     -- p10 period 1/2 s, elapsed 1/4 s: progress 1; even pace: 1/2
     ∷ (timedProgressTold (nanoseconds 250000000) (nanoseconds 500000000) ≡ given [] (over 1 1 ∷ []))
     ∷ (evenProgressTold (nanoseconds 250000000) (nanoseconds 500000000) ≡ given [] (over 1 2 ∷ []))
@@ -123,6 +144,9 @@ cases =
     ∷ (mergeTold (all (at nan zero)) (all start) 64 ≡ refused 1)
     -- k5 start and target differ only in z, progress 1: target, moved
     ∷ (paced lifted lowered ≡ movedTo lifted lowered lowered)
+    -- k12 half way left front, right middle and left rear are lifted; at their targets all stand
+    ∷ (striding 250000000 ≡ 1 ∷ 1 ∷ 0 ∷ 0 ∷ 1 ∷ 1 ∷ 0 ∷ [])
+    ∷ (striding 500000000 ≡ 1 ∷ 0 ∷ 0 ∷ 0 ∷ 0 ∷ 0 ∷ 0 ∷ [])
     ∷ []
 
 -- every case of a list holds

@@ -1,8 +1,9 @@
-// Document 01's cases and request K5's, run: a line each, its name and what came of it.
+// Document 01's cases and those of requests K5 and K12, run: a line each, its name and what came of it.
 use hopper::foot_moves::MoveStep;
 use hopper::foot_moves::Towards;
 use hopper::foot_moves::Walked;
 use hopper::legs::Feet;
+use hopper::legs::Foot;
 use hopper::legs::Planned;
 use hopper::legs::Point;
 use hopper::numbers::Answer;
@@ -90,7 +91,7 @@ fn walked(n: u64, max_move: f32, start: Point, target: Point) {
 fn planned(n: u64, p: Planned) {
     case(n);
     match p {
-        Planned::Feet(f) => point(f.left_front),
+        Planned::Feet(f) => point(f.left_front.point),
         Planned::Refused(r) => refused(r),
     }
 }
@@ -112,15 +113,23 @@ fn at(x: f32, y: f32) -> Point {
     Point { x: x, y: y, z: 0.0 }
 }
 
-// Six feet at one point.
+// A foot that stands there.
+fn standing(p: Point) -> Foot {
+    Foot {
+        point: p,
+        lifted: false,
+    }
+}
+
+// Six feet that stand at one point.
 fn all(p: Point) -> Feet {
     Feet {
-        left_front: p,
-        left_middle: p,
-        left_rear: p,
-        right_front: p,
-        right_middle: p,
-        right_rear: p,
+        left_front: standing(p),
+        left_middle: standing(p),
+        left_rear: standing(p),
+        right_front: standing(p),
+        right_middle: standing(p),
+        right_rear: standing(p),
     }
 }
 
@@ -157,7 +166,7 @@ fn merged(n: u64, a: Feet, b: Feet, mask: u32) {
 fn updated(n: u64, feet: Feet, value: Point, count: usize, mask: u32) {
     planned(
         n,
-        hopper::legs::updated_from_first(feet, [value; 64], count, mask),
+        hopper::legs::updated_from_first(feet, [standing(value); 64], count, mask),
     );
 }
 
@@ -183,7 +192,7 @@ fn paced(step: NextEven) {
     match step {
         NextEven::Step(feet, _) => {
             io::write_all(STDOUT_FILENO, b" moved");
-            point(feet.left_front);
+            point(feet.left_front.point);
         }
         NextEven::NoStep => {
             io::write_all(STDOUT_FILENO, b" no step\n");
@@ -195,14 +204,60 @@ fn paced(step: NextEven) {
 // k5: six feet go from one point to another in half a second, at even pace; the time is up.
 fn lowered(from: Point, to: Point) {
     let half = nanoseconds(500_000_000);
-    let lift = Lift {
+    match EvenStepIterator::step(all(from), all(to), half, lift()) {
+        EvenIter::State(state) => paced(state.next(half)),
+        EvenIter::Refused(n) => refused(n),
+    }
+}
+
+// Left front, right middle and left rear are lifted by 3 cm.
+fn lift() -> Lift {
+    Lift {
         step_height: 0.03,
         grounded_leg_descent: 0.0,
         tripod: Tripod::LRL,
         aggressive_leg_lift: false,
-    };
-    match EvenStepIterator::step(all(from), all(to), half, lift) {
-        EvenIter::State(state) => paced(state.next(half)),
+    }
+}
+
+// 1 for a foot that is lifted, else 0.
+fn mark(foot: Foot) {
+    if foot.lifted {
+        io::write_all(STDOUT_FILENO, b"1");
+    } else {
+        io::write_all(STDOUT_FILENO, b"0");
+    }
+}
+
+// k12: the marks of a step at even pace, in row order.
+fn marks(step: NextEven) {
+    io::write_all(STDOUT_FILENO, b"k12: ");
+    match step {
+        NextEven::Step(feet, _) => {
+            mark(feet.left_front);
+            mark(feet.right_front);
+            mark(feet.left_middle);
+            mark(feet.right_middle);
+            mark(feet.left_rear);
+            mark(feet.right_rear);
+            io::write_all(STDOUT_FILENO, b"\n");
+        }
+        NextEven::NoStep => {
+            io::write_all(STDOUT_FILENO, b" no step\n");
+        }
+        NextEven::Refused(n) => refused(n),
+    }
+}
+
+// k12: six feet go a quarter of a metre ahead in half a second; so many nanoseconds have passed.
+fn striding(elapsed: u32) {
+    match EvenStepIterator::step(
+        all(at(0.0, 0.0)),
+        all(at(0.25, 0.0)),
+        nanoseconds(500_000_000),
+        lift(),
+    ) {
+        EvenIter::State(state) => marks(state.next(nanoseconds(elapsed))),
         EvenIter::Refused(n) => refused(n),
     }
 }
@@ -228,4 +283,6 @@ fn main() {
         },
         at(0.2, 0.1),
     );
+    striding(250_000_000);
+    striding(500_000_000);
 }

@@ -7,7 +7,8 @@ use lib.Dec.{eqb}
 use lib.ListN.{getD}
 use lib.Ieee.{Float, nan}
 use Rattle.numbers.specs.Told.{Told, choose}
-use Rattle.commands.specs.Answers.{mark, tripodMark, commandMarks, commandValues, toldTripod, told, toldShould}
+use Rattle.numbers.proofs.OneAnswer.{undone, flag-of-mark}
+use Rattle.commands.specs.Answers.{tripodMark, commandMarks, commandValues, toldTripod, told, toldShould}
 use Rattle.commands.specs.Command.{command}
 use Rattle.commands.specs.declared.Tripod.{Tripod}
 use Rattle.commands.specs.declared.Tripod.the-variants.{LRL, RLR}
@@ -17,16 +18,7 @@ use Rattle.commands.specs.declared.Commanded.the-variants.{Command, Refu
 use Rattle.commands.specs.declared.ShouldMove.{ShouldMove}
 use Rattle.commands.specs.declared.ShouldMove.the-variants.{Yes, No, Refused as RefusedToSay}
 
--- telling that can be undone loses nothing
-pub undone : {A : Type 0} (tell : A → Told) (back : Told → A) → ((a : A) → back (tell a) ≡ a) → (a b : A) → tell a ≡ tell b → a ≡ b
-undone tell back is a b e = sym (is a) ∙ ap back e ∙ is b
-
--- a flag is settled by its mark
-pub flag-of-mark : (b : Bool) → eqb (mark b) 1 ≡ b
-flag-of-mark true = refl
-flag-of-mark false = refl
-
--- and a tripod
+-- a tripod is settled by its mark
 pub tripod-of-mark : ℕ → Tripod
 tripod-of-mark n = choose (eqb n 1) RLR LRL
 

@@ -1,9 +1,8 @@
 -- Document 01's number and values for each case of an answer on commands.
 use Prim.Native.Nat.{ℕ}
-use mathlib.Core.Bool.{Bool}
 use mathlib.Core.List.{List, [], _∷_}
 use lib.Ieee.{Float}
-use Rattle.numbers.specs.Told.{Told, refused, given, choose}
+use Rattle.numbers.specs.Told.{Told, refused, given, mark}
 use Rattle.commands.specs.declared.Tripod.{Tripod}
 use Rattle.commands.specs.declared.Tripod.the-variants.{LRL, RLR}
 use Rattle.commands.specs.declared.MoveCommand.{MoveCommand}
@@ -11,10 +10,6 @@ use Rattle.commands.specs.declared.Commanded.{Commanded}
 use Rattle.commands.specs.declared.Commanded.the-variants.{Command, Refused}
 use Rattle.commands.specs.declared.ShouldMove.{ShouldMove}
 use Rattle.commands.specs.declared.ShouldMove.the-variants.{Yes, No, Refused as RefusedToSay}
-
--- a flag is 1 or 0
-abbrev pub mark : Bool → ℕ
-mark b = choose b 1 0
 
 -- a tripod is 0 for LRL, 1 for RLR
 abbrev pub tripodMark : Tripod → ℕ

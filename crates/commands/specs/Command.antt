@@ -4,13 +4,13 @@ use Prim.Native.Nat.{ℕ, _*_, _^_}
 use mathlib.Core.Bool.{Bool, false, not, _&&_}
 use mathlib.Core.List.{[], _∷_}
 use lib.Ieee.{Float, lt}
-use Rattle.numbers.specs.Told.{Told, given, answer}
+use Rattle.numbers.specs.Told.{Told, given, mark, answer}
 use Rattle.numbers.specs.Door.{finite, permits, unless, firstOf}
 use Rattle.numbers.specs.Limits.{over, direction, rotation as rotationLimit}
 use Rattle.numbers.specs.Finite.{magnitude}
 use Rattle.commands.specs.Constants.{nought}
 use Rattle.commands.specs.Times.{periodPermitted}
-use Rattle.commands.specs.Answers.{mark, givenCommand}
+use Rattle.commands.specs.Answers.{givenCommand}
 use Rattle.commands.specs.declared.Time.{Time}
 use Rattle.commands.specs.declared.MoveCommand.{MoveCommand}
 

@@ -1,12 +1,14 @@
 // The operations behind the door, total on every value, for the rooms above.
 use crate::MoveCommand;
 use crate::Time;
+use crate::Tripod;
 use numbers::door;
 use numbers::limits;
 ghost use mathlib.Core.Path.{_≡_};
 ghost use Rattle.commands.specs.Times.{wholeNumber, elapsedPermitted, periodPermitted, inSeconds};
 ghost use Rattle.commands.specs.How.{counted, capped};
 ghost use Rattle.commands.specs.Command.{finiteCommand, permittedCommand, shouldMove};
+ghost use Rattle.commands.specs.Tripods.{isLRL};
 
 // Whether an elapsed time is in the table: at most 3600 s and nanoseconds below 10^9.
 pub fn is_elapsed(t: Time) -> bool
@@ -54,6 +56,16 @@ pub fn as_secs_f32(t: Time) -> f32
 {
     let seconds = counted(t.seconds) as f32;
     seconds + rounded(t.nanoseconds) / 1000000000.0
+}
+
+// Whether left front, right middle and left rear are the lifted ones.
+pub fn is_lrl(tripod: Tripod) -> bool
+    ensures { λ r. ⌜ r ≡ isLRL tripod ⌝ }
+{
+    match tripod {
+        Tripod::LRL => true,
+        Tripod::RLR => false,
+    }
 }
 
 // Whether all four floats are finite.

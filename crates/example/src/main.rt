@@ -4,6 +4,7 @@ use hopper::joints::Configuration;
 use hopper::joints::LegConfiguration;
 use hopper::joints::Solution;
 use hopper::legs::Feet;
+use hopper::legs::Foot;
 use hopper::legs::Joints;
 use hopper::legs::LegAngles;
 use hopper::legs::Planned;
@@ -47,11 +48,16 @@ fn stretched() -> Feet {
     feet
 }
 
-fn at(x: f32, y: f32) -> Point {
-    Point {
+// A foot that stands there.
+fn at(x: f32, y: f32) -> Foot {
+    let point = Point {
         x: x,
         y: y,
         z: -0.11,
+    };
+    Foot {
+        point: point,
+        lifted: false,
     }
 }
 
@@ -120,9 +126,30 @@ fn step(state: EvenStepIterator) {
         nanoseconds: 300_000_000,
     };
     match state.next(elapsed) {
-        NextEven::Step(feet, _) => solve(feet),
+        NextEven::Step(feet, _) => {
+            bearing(feet);
+            solve(feet);
+        }
         NextEven::NoStep => say(b"no step\n"),
         NextEven::Refused(n) => refused(n),
+    }
+}
+
+// Which feet bear weight.
+fn bearing(feet: Feet) {
+    say(b"on the ground:");
+    stands(feet.left_front, b" left front");
+    stands(feet.left_middle, b" left middle");
+    stands(feet.left_rear, b" left rear");
+    stands(feet.right_front, b" right front");
+    stands(feet.right_middle, b" right middle");
+    stands(feet.right_rear, b" right rear");
+    say(b"\n");
+}
+
+fn stands(foot: Foot, name: &[u8]) {
+    if !foot.lifted {
+        say(name);
     }
 }
 

@@ -1,8 +1,8 @@
 // The answers of numbers, legs and foot moves as words.
 use crate::Words;
 use crate::said;
+use legs::Foot;
 use legs::Planned;
-use legs::Point;
 use legs::RowOfSix;
 use legs::Selected;
 use moves::FeetIter;
@@ -106,12 +106,34 @@ pub fn next_feet(a: NextFeet) -> Words {
     }
 }
 
-// A place of a row, if it counts.
-fn place(o: Words, p: Point, counts: bool) -> Words {
-    if counts { said::point(o, p) } else { o }
+// A place of a row, if it counts: its point,
+fn place(o: Words, p: Foot, counts: bool) -> Words {
+    if counts { said::point(o, p.point) } else { o }
 }
 
-// The length in decimal, and that many points.
+// and its mark.
+fn place_mark(marks: u64, p: Foot, counts: bool) -> u64 {
+    if counts {
+        said::with_mark(marks, p)
+    } else {
+        marks
+    }
+}
+
+// The marks of the places that count, if one does.
+fn row_marks(o: Words, r: RowOfSix) -> Words {
+    let n = r.len;
+    let marks = place_mark(place_mark(0, r.first, 0 < n), r.second, 1 < n);
+    let marks = place_mark(place_mark(marks, r.third, 2 < n), r.fourth, 3 < n);
+    let marks = place_mark(place_mark(marks, r.fifth, 4 < n), r.sixth, 5 < n);
+    if n == 0 {
+        o
+    } else {
+        said::marks(o, (n % 7) as u64, marks)
+    }
+}
+
+// The length in decimal, that many points, and their marks.
 fn row_of_six(r: RowOfSix) -> Words {
     let n = r.len;
     let o = said::decimal(said::ok(), (n % 10) as u32);
@@ -120,11 +142,12 @@ fn row_of_six(r: RowOfSix) -> Words {
         r.third,
         2 < n,
     );
-    place(
+    let o = place(
         place(place(o, r.fourth, 3 < n), r.fifth, 4 < n),
         r.sixth,
         5 < n,
-    )
+    );
+    row_marks(o, r)
 }
 
 // The selected legs.

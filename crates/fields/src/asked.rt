@@ -2,6 +2,7 @@
 // the group.
 use crate::Words;
 use legs::Feet;
+use legs::Foot;
 use legs::Point;
 use moves::MovingFeet;
 use moves::MovingPoint;
@@ -31,30 +32,41 @@ pub fn point(w: Words, i: usize, k: usize) -> Point {
     }
 }
 
-// Six points in row order.
-pub fn feet(w: Words, i: usize) -> Feet {
-    Feet {
-        left_front: point(w, i, 0),
-        left_middle: point(w, i, 6),
-        left_rear: point(w, i, 12),
-        right_front: point(w, i, 3),
-        right_middle: point(w, i, 9),
-        right_rear: point(w, i, 15),
+// A foot at this point; it is lifted where the lowest bit of the marks is 1.
+fn foot(point: Point, marks: u64) -> Foot {
+    Foot {
+        point: point,
+        lifted: marks % 2 == 1,
     }
 }
 
-// 64 points from a place on; those of the line come first.
-pub fn points(w: Words, i: usize) -> [Point; 64] {
+// Six feet in row order, eighteen floats and a word of marks, the first foot's the lowest.
+pub fn feet(w: Words, i: usize) -> Feet {
+    let marks = word(w, i, 18);
+    Feet {
+        left_front: foot(point(w, i, 0), marks),
+        left_middle: foot(point(w, i, 6), marks / 4),
+        left_rear: foot(point(w, i, 12), marks / 16),
+        right_front: foot(point(w, i, 3), marks / 2),
+        right_middle: foot(point(w, i, 9), marks / 8),
+        right_rear: foot(point(w, i, 15), marks / 32),
+    }
+}
+
+// 64 feet, their points from a place on; the n of the line come first, and their marks stand behind their points.
+pub fn values(w: Words, i: usize, n: usize) -> [Foot; 64] {
     let origin = Point {
         x: 0.0,
         y: 0.0,
         z: 0.0,
     };
-    let mut values = [origin; 64];
+    let mut values = [foot(origin, 0); 64];
+    let mut marks = word(w, i, 3 * (n % 65));
     let mut k = 0;
     while k < 64 {
-        let p = point(w, i, 3 * k);
+        let p = foot(point(w, i, 3 * k), marks);
         values[k] = p;
+        marks = marks / 2;
         k += 1;
     }
     values
@@ -72,8 +84,8 @@ pub fn moving_point(w: Words) -> MovingPoint {
 // Six feet on their way: last, target, max move.
 pub fn moving_feet(w: Words) -> MovingFeet {
     MovingFeet {
-        target: feet(w, 18),
-        max_move: float(w, 0, 36),
+        target: feet(w, 19),
+        max_move: float(w, 0, 38),
         last: feet(w, 0),
     }
 }

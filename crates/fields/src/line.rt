@@ -1,5 +1,6 @@
 // A line of text as words: its fields are parted by single blanks, and its shape says what kind each of them is.
 use crate::Words;
+use lines::digits::Digits;
 ghost use Prim.Native.Nat.{_≤_, _<_};
 ghost use lib.ListN.{length};
 
@@ -8,10 +9,24 @@ const BLANK: u8 = 32;
 // A longer line is not read.
 const LONGEST: usize = 4096;
 
+// Kinds of fields that a shape does not name: marks that a line does not say, so that all are 0, six bits, and a bit for each value.
+const UNSAID: u64 = 11;
+
+const SIX_BITS: u64 = 12;
+
+const VALUE_BITS: u64 = 13;
+
 // A line's numbers, and whether it has its shape.
 pub struct Line {
     pub words: Words,
     pub good: bool,
+}
+
+// Bits read so far: the first is the lowest, the next has this weight.
+struct BitsRead {
+    good: bool,
+    value: u64,
+    weight: u64,
 }
 
 // A field's number, where the field ends, and whether it is of its kind.
@@ -65,24 +80,39 @@ pub fn name(s: &[u8]) -> u64 {
     n
 }
 
-// As many points as a line says, at most 64: no line is long enough for 4,096 fields.
-fn points_of(given: u64) -> u64 {
-    if given <= 64 { 3 * given } else { 4096 }
+// As many feet as a line says, at most 64, and their marks: no line is long enough for 4,096 fields.
+fn values_of(given: u64) -> u64 {
+    if given <= 64 { 3 * given + 1 } else { 4096 }
 }
 
-// How many fields a kind has.
+// How many words a kind has. Feet have their marks behind them, said or not.
 fn count_of(kind: u64, given: u64) -> u64 {
     match kind {
         1 | 4 | 5 | 6 => 1,
         2 => 3,
-        3 => 18,
+        3 | 9 => 19,
         7 => 41,
-        8 => points_of(given),
+        8 | 10 => values_of(given),
         _ => 0,
     }
 }
 
-// The kind of the i-th field of a shape.
+// What the field of the marks of so many values is.
+fn value_marks(given: u64) -> u64 {
+    if given == 0 { UNSAID } else { VALUE_BITS }
+}
+
+// What the marks of a kind are, or the kind itself.
+fn marks_of(kind: u64, given: u64) -> u64 {
+    match kind {
+        3 | 8 => UNSAID,
+        9 => SIX_BITS,
+        10 => value_marks(given),
+        _ => kind,
+    }
+}
+
+// The kind of the i-th word of a shape.
 fn kind_of(shape: u64, i: u64, given: u64) -> u64 {
     let mut left = i;
     let mut weight: u64 = 0x1000_0000_0000_0000;
@@ -90,6 +120,9 @@ fn kind_of(shape: u64, i: u64, given: u64) -> u64 {
         let kind = shape / weight % 16;
         let n = count_of(kind, given);
         if left < n {
+            if left + 1 == n {
+                return marks_of(kind, given);
+            }
             return kind;
         }
         left -= n;
@@ -99,28 +132,87 @@ fn kind_of(shape: u64, i: u64, given: u64) -> u64 {
 }
 
 // Whether so many digits of this value are a field of the kind.
-fn takes(kind: u64, digits: usize, value: u64) -> bool {
+fn takes(kind: u64, digits: usize, value: u64, given: u64) -> bool {
     match kind {
-        0 => false,
+        0 | UNSAID => false,
         4 => digits <= 8,
         5 => (digits == 1) & (value < 2),
         6 => true,
+        SIX_BITS => digits == 6,
+        VALUE_BITS => digits as u64 == given,
         _ => digits == 8,
     }
 }
 
+// The weight of a bit that stands.
+fn weight_if(stands: bool, weight: u64) -> u64 {
+    if stands { weight } else { 0 }
+}
+
+// One bit more.
+fn with_bit(d: BitsRead, b: u8) -> BitsRead {
+    let value = d.value;
+    let weight = d.weight;
+    BitsRead {
+        good: d.good & ((b == b'0') | (b == b'1')),
+        value: value | weight_if(b == b'1', weight),
+        weight: weight % 0x8000_0000_0000_0000 * 2,
+    }
+}
+
+// Bits, the first the lowest.
+fn bits(s: &[u8]) -> Digits {
+    let mut d = BitsRead {
+        good: true,
+        value: 0,
+        weight: 1,
+    };
+    let mut i = 0;
+    while i < s.len() {
+        d = with_bit(d, s[i]);
+        i += 1;
+    }
+    Digits {
+        good: d.good,
+        value: d.value,
+    }
+}
+
+// The number of a field of this kind.
+fn number(s: &[u8], kind: u64) -> Digits {
+    if (kind == SIX_BITS) | (kind == VALUE_BITS) {
+        bits(s)
+    } else {
+        lines::digits::hex(s, 1, 16)
+    }
+}
+
 // The field after the blank at a place.
-fn field(s: &[u8], at: usize, kind: u64) -> FieldRead
+fn field(s: &[u8], at: usize, kind: u64, given: u64) -> FieldRead
     requires { ⌜ at < length (now s) ⌝ }
     ensures { λ r. ⌜ (at < r .end) × (r .end ≤ length (now (s .entry))) ⌝ }
 {
     let from = at + 1;
     let to = end_of(s, from);
-    let d = lines::digits::hex(&s[from..to], 1, 16);
+    let d = number(&s[from..to], kind);
     FieldRead {
         value: d.value,
         end: to,
-        good: d.good & takes(kind, to - from, d.value),
+        good: d.good & takes(kind, to - from, d.value, given),
+    }
+}
+
+// The word after this one. No line that is read has as many as 4,096.
+fn after(i: u64) -> u64 {
+    i % 4096 + 1
+}
+
+// The next word that a line says, from the i-th on: of those that it does not say no two stand side by side.
+fn next_said(shape: u64, i: u64, given: u64) -> u64 {
+    if kind_of(shape, i, given) == UNSAID {
+        after(i)
+    } else {
+        i
     }
 }
 
@@ -130,16 +222,18 @@ pub fn read(s: &[u8], shape: u64) -> Line {
     let mut words = [0; 256];
     let mut good = true;
     let mut at = end_of(s, z);
-    let mut i: usize = 0;
+    let mut i: u64 = 0;
     while at < s.len() {
-        let f = field(s, at, kind_of(shape, i as u64, words[1]));
-        words[i % 256] = f.value;
+        let k = next_said(shape, i, words[1]);
+        let f = field(s, at, kind_of(shape, k, words[1]), words[1]);
+        words[(k % 256) as usize] = f.value;
         good = good & f.good;
         at = f.end;
-        i += 1;
+        i = after(k);
     }
+    let end = next_said(shape, i, words[1]);
     Line {
         words: words,
-        good: good & (kind_of(shape, i as u64, words[1]) == 0) & (s.len() <= LONGEST),
+        good: good & (kind_of(shape, end, words[1]) == 0) & (s.len() <= LONGEST),
     }
 }

@@ -83,30 +83,73 @@ pub const FLAGS: u64 = 0x66_6c61_6773;
 
 pub const DEFAULTS: u64 = 0x6465_6661_756c_7473;
 
+// Those that take and show marks.
+pub const MERGEM: u64 = 0x6d65_7267_656d;
+
+pub const SELM: u64 = 0x7365_6c6d;
+
+pub const UPDM: u64 = 0x7570_646d;
+
+pub const MV6M: u64 = 0x6d76_366d;
+
+pub const WALK6M: u64 = 0x7761_6c6b_366d;
+
+pub const STEPM: u64 = 0x73_7465_706d;
+
+pub const TSTEPM: u64 = 0x7473_7465_706d;
+
+pub const ESTEPM: u64 = 0x6573_7465_706d;
+
+pub const PLANM: u64 = 0x70_6c61_6e6d;
+
+pub const FKM: u64 = 0x66_6b6d;
+
 // What a line holds after its name, a hex digit each: 1 a float, 2 a point, 3 a row, 4 a u32, 5 a bit, 6 seconds,
-// 7 a configuration, 8 as many points as the number before says. A time is 64, a command 2_6415.
+// 7 a configuration, 8 as many points as the number before says; 9 a row with its marks, a as many feet as the number before says,
+// their marks behind them. A time is 64, a command 2_6415.
 pub fn shape(name: u64) -> u64 {
     match name {
         ABS | SQRT | SIN | COS | ACOS | BITS => 0x1,
         MIN | MAX | ATAN2 => 0x11,
         TPROG | EPROG => 0x6464,
         SEL => 0x43,
+        SELM => 0x49,
         UPD => 0x4483,
+        UPDM => 0x44a9,
         MERGE => 0x433,
+        MERGEM => 0x499,
         MV | ITER | NEXT => 0x221,
         WALK => 0x122,
         MV6 | ITER6 | NEXT6 => 0x331,
+        MV6M => 0x991,
         WALK6 => 0x133,
+        WALK6M => 0x199,
         LDIST => 0x33,
         STEP => 0x333_1155,
+        STEPM => 0x999_1155,
         TSTEP | ESTEP => 0x333_1155_6464,
+        TSTEPM | ESTEPM => 0x999_1155_6464,
         SITER => 0x33_1155,
         TITER | EITER => 0x3311_5564,
         SHOULD | CWITH => 0x2_6415,
         CNEW => 0x2,
         PLAN => 0x3352_6415,
-        IK | IKS | FK => 0x37,
+        PLANM => 0x9952_6415,
+        IK | IKS | FK | FKM => 0x37,
         INV | FLAG => 0x5,
         _ => 0,
     }
+}
+
+// Whether the answer shows marks.
+pub fn shows_marks(name: u64) -> bool {
+    match name {
+        MERGEM | SELM | UPDM | MV6M | WALK6M | STEPM | TSTEPM | ESTEPM | PLANM | FKM => true,
+        _ => false,
+    }
+}
+
+// The operation that a name asks for: one that shows marks is the same without its last letter.
+pub fn operation(name: u64) -> u64 {
+    if shows_marks(name) { name / 256 } else { name }
 }

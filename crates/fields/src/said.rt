@@ -2,6 +2,7 @@
 use crate::Words;
 use crate::asked;
 use legs::Feet;
+use legs::Foot;
 use legs::Point;
 use moves::MovingFeet;
 use moves::MovingPoint;
@@ -10,8 +11,11 @@ use numbers::patterns::Pattern;
 // A word below 2^32 is written as eight hex digits. From here on it is up to four letters, the first one highest,
 const LETTERS: u64 = 0x1_0000_0000;
 
-// and from here on a decimal number.
+// from here on a decimal number,
 const DECIMAL: u64 = 0x2_0000_0000;
+
+// and from here on the marks of feet: so many bits as it is times 2^32 further on.
+const MARKS: u64 = 0x3_0000_0000;
 
 // One word more. No answer has as many as 255.
 fn word(o: Words, x: u64) -> Words {
@@ -70,10 +74,56 @@ pub fn point(o: Words, p: Point) -> Words {
     float(float(float(o, p.x), p.y), p.z)
 }
 
-// Six points in row order.
+// One mark more, behind the others: 1 is lifted.
+pub fn with_mark(marks: u64, foot: Foot) -> u64 {
+    if foot.lifted {
+        marks % 32 * 2 + 1
+    } else {
+        marks % 32 * 2
+    }
+}
+
+// So many marks, at most six.
+pub fn marks(o: Words, n: u64, marks: u64) -> Words {
+    word(o, MARKS + n % 7 * LETTERS + marks % 64)
+}
+
+// The marks of six feet in row order.
+fn six_marks(o: Words, f: Feet) -> Words {
+    let front = with_mark(with_mark(0, f.left_front), f.right_front);
+    let middle = with_mark(with_mark(front, f.left_middle), f.right_middle);
+    marks(
+        o,
+        6,
+        with_mark(with_mark(middle, f.left_rear), f.right_rear),
+    )
+}
+
+// Six feet in row order: their points, and their marks.
 pub fn feet(o: Words, f: Feet) -> Words {
-    let o = point(point(point(o, f.left_front), f.right_front), f.left_middle);
-    point(point(point(o, f.right_middle), f.left_rear), f.right_rear)
+    let front = point(point(o, f.left_front.point), f.right_front.point);
+    let middle = point(point(front, f.left_middle.point), f.right_middle.point);
+    six_marks(
+        point(point(middle, f.left_rear.point), f.right_rear.point),
+        f,
+    )
+}
+
+// A word more, unless it is of marks.
+fn unless_marks(o: Words, x: u64) -> Words {
+    if x < MARKS { word(o, x) } else { o }
+}
+
+// The same answer without marks.
+pub fn without_marks(o: Words) -> Words {
+    let mut shown = [0; 256];
+    let mut i: u64 = 1;
+    while i <= o[0] % 256 {
+        let next = unless_marks(shown, o[i as usize]);
+        shown = next;
+        i += 1;
+    }
+    shown
 }
 
 // Last, target, max move.
@@ -98,7 +148,7 @@ pub fn counted(o: Words, n: u32) -> Words {
     o
 }
 
-// The word `row`, and a row as the line gave it.
+// The word `row`, and a row as the line gave it, with its marks.
 pub fn given(o: Words, w: Words, i: usize) -> Words {
     let mut o = letters(o, 0x72_6f77);
     let mut k = 0;
@@ -107,5 +157,5 @@ pub fn given(o: Words, w: Words, i: usize) -> Words {
         o = next;
         k += 1;
     }
-    o
+    six_marks(o, asked::feet(w, i))
 }

@@ -41,7 +41,7 @@ fn digit(t: Text, n: u64, base: u64, due: bool) -> Text
     }
 }
 
-// A number below 2^32 in digits of a base of 10 at least, `least` of them or more.
+// A number below 2^32 in digits of a base, `least` of them or more, at most ten.
 fn spelled(t: Text, n: u64, base: u64, least: u64) -> Text
     requires { ⌜ 0 < base ⌝ }
 {
@@ -56,13 +56,14 @@ fn spelled(t: Text, n: u64, base: u64, least: u64) -> Text
     t
 }
 
-// A word of an answer: eight hex digits, letters, or a decimal number.
+// A word of an answer: eight hex digits, letters, a decimal number, or from 3 on so many bits more.
 fn word(t: Text, w: u64) -> Text {
     let n = w % 0x1_0000_0000;
     match w / 0x1_0000_0000 {
         0 => spelled(t, n, 16, 8),
         1 => spelled(t, n, 256, 1),
-        _ => spelled(t, n, 10, 1),
+        2 => spelled(t, n, 10, 1),
+        _ => spelled(t, n, 2, (w / 0x1_0000_0000 - 3) % 7),
     }
 }
 

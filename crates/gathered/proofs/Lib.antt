@@ -1,3 +1,4 @@
 pub mod OneAnswer
+pub mod PointsUnmoved
 pub mod Bands
 mod Examples

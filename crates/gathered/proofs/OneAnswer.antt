@@ -63,6 +63,10 @@ use Rattle.legs.proofs.merge_refused.Reads as legs-merge-refused
 use Rattle.legs.proofs.merge_with.Reads as legs-merge-with
 use Rattle.legs.proofs.selected_refused.Reads as legs-selected-refused
 use Rattle.legs.proofs.selected_legs.Reads as legs-selected-legs
+use Rattle.legs.proofs.core.points_of.Reads as legs-core-points-of
+use Rattle.legs.proofs.core.foot_at.Reads as legs-core-foot-at
+use Rattle.legs.proofs.core.marked_as.Reads as legs-core-marked-as
+use Rattle.legs.proofs.core.standing.Reads as legs-core-standing
 use Rattle.legs.proofs.core.chosen.Reads as legs-core-chosen
 use Rattle.legs.proofs.core.point_finite.Reads as legs-core-point-finite
 use Rattle.legs.proofs.core.point_permitted.Reads as legs-core-point-permitted
@@ -105,6 +109,7 @@ use Rattle.moves.proofs.core.move_towards.Reads as moves-core-move-towards
 use Rattle.moves.proofs.core.point_of.Reads as moves-core-point-of
 use Rattle.moves.proofs.core.has_moved.Reads as moves-core-has-moved
 use Rattle.moves.proofs.core.together.Reads as moves-core-together
+use Rattle.moves.proofs.core.move_points_towards.Reads as moves-core-move-points-towards
 use Rattle.moves.proofs.core.move_feet_towards.Reads as moves-core-move-feet-towards
 use Rattle.moves.proofs.core.next_point.Reads as moves-core-next-point
 use Rattle.moves.proofs.core.next_feet.Reads as moves-core-next-feet
@@ -129,6 +134,7 @@ use Rattle.commands.proofs.core.is_elapsed.Reads as commands-core-is-elapsed
 use Rattle.commands.proofs.core.is_period.Reads as commands-core-is-period
 use Rattle.commands.proofs.core.rounded.Reads as commands-core-rounded
 use Rattle.commands.proofs.core.as_secs_f32.Reads as commands-core-as-secs-f32
+use Rattle.commands.proofs.core.is_lrl.Reads as commands-core-is-lrl
 use Rattle.commands.proofs.core.command_finite.Reads as commands-core-command-finite
 use Rattle.commands.proofs.core.command_permitted.Reads as commands-core-command-permitted
 use Rattle.commands.proofs.core.should_move.Reads as commands-core-should-move
@@ -340,6 +346,18 @@ settled-legs-selected-refused i = one-value
 pub settled-legs-selected-legs : Settled (legs-selected-legs.Post tt)
 settled-legs-selected-legs i = one-answer legs.toldSelected legs-one.toldSelected-loses-nothing
 
+pub settled-legs-core-points-of : Settled (legs-core-points-of.Post tt)
+settled-legs-core-points-of i = one-value
+
+pub settled-legs-core-foot-at : Settled (legs-core-foot-at.Post tt)
+settled-legs-core-foot-at i = one-value
+
+pub settled-legs-core-marked-as : Settled (legs-core-marked-as.Post tt)
+settled-legs-core-marked-as i = one-value
+
+pub settled-legs-core-standing : Settled (legs-core-standing.Post tt)
+settled-legs-core-standing i = one-value
+
 pub settled-legs-core-chosen : Settled (legs-core-chosen.Post tt)
 settled-legs-core-chosen i = one-value
 
@@ -468,6 +486,9 @@ settled-moves-core-has-moved i = one-value
 pub settled-moves-core-together : Settled (moves-core-together.Post tt)
 settled-moves-core-together i = one-value
 
+pub settled-moves-core-move-points-towards : Settled (moves-core-move-points-towards.Post tt)
+settled-moves-core-move-points-towards i = one-value
+
 pub settled-moves-core-move-feet-towards : Settled (moves-core-move-feet-towards.Post tt)
 settled-moves-core-move-feet-towards i = one-value
 
@@ -541,6 +562,9 @@ settled-commands-core-rounded i = one-value
 
 pub settled-commands-core-as-secs-f32 : Settled (commands-core-as-secs-f32.Post tt)
 settled-commands-core-as-secs-f32 i = one-value
+
+pub settled-commands-core-is-lrl : Settled (commands-core-is-lrl.Post tt)
+settled-commands-core-is-lrl i = one-value
 
 pub settled-commands-core-command-finite : Settled (commands-core-command-finite.Post tt)
 settled-commands-core-command-finite i = one-value

@@ -44,6 +44,7 @@ pub use Rattle.commands.specs.Command as CommandsCommand
 pub use Rattle.steps.specs.Progress as StepsProgress
 pub use Rattle.steps.specs.Leg as StepsLeg
 pub use Rattle.steps.specs.Shift as StepsShift
+pub use Rattle.steps.specs.Marks as StepsMarks
 pub use Rattle.steps.specs.Next as StepsNext
 pub use Rattle.steps.specs.Answers as StepsAnswers
 pub use Rattle.steps.specs.Refusals as StepsRefusals

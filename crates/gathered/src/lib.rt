@@ -18,6 +18,7 @@ pub use joints::configuration::Body;
 pub use joints::configuration::Configuration;
 pub use joints::configuration::LegConfiguration;
 pub use legs::Feet;
+pub use legs::Foot;
 pub use legs::Joints;
 pub use legs::LegAngles;
 pub use legs::Planned;

@@ -7,6 +7,7 @@ pub use Rattle.gathered.specs.CommandsCommand
 pub use Rattle.gathered.specs.StepsProgress
 pub use Rattle.gathered.specs.StepsLeg
 pub use Rattle.gathered.specs.StepsShift
+pub use Rattle.gathered.specs.StepsMarks
 pub use Rattle.gathered.specs.StepsNext
 pub use Rattle.gathered.specs.StepsAnswers
 pub use Rattle.gathered.specs.StepsRefusals

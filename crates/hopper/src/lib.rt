@@ -14,9 +14,10 @@ pub mod numbers {
     pub use gathered::square_root;
 }
 
-// Foot points and joint angles by leg, masks, selection, merge.
+// Feet and joint angles by leg, masks, selection, merge.
 pub mod legs {
     pub use gathered::Feet;
+    pub use gathered::Foot;
     pub use gathered::Joints;
     pub use gathered::LegAngles;
     pub use gathered::Planned;

@@ -1,12 +1,13 @@
 -- Request K2's cases, by computation: a coxa of 1/16 m, a femur and a tibia of 1/8 m, all else in the configuration 0. A foot ahead is
 -- solved; one to the left and back is past 90 degrees, one to the right and back past -90. A leg turned by just the limit is past it.
 use mathlib.Core.Path.{_≡_, refl}
+use mathlib.Core.Bool.{false}
 use Prim.Native.Nat.{ℕ}
 use lib.Ieee.{Float, nan, binary32, ofBits, round, add, sub, lt, le, eq}
 use Rattle.numbers.specs.Told.{Told, refused}
 use Rattle.numbers.specs.Door.{finite}
 use Rattle.numbers.specs.Limits.{over, minus, footLimit, legLength, offset, correction, rotation}
-use Rattle.legs.specs.Legs.{finitePoint, permittedPoint}
+use Rattle.legs.specs.Legs.{marked, finitePoint, permittedPoint}
 use Rattle.legs.specs.Vectors as vectors
 use Rattle.legs.specs.declared.Point.{Point}
 use Rattle.legs.specs.declared.Feet.{Feet}
@@ -76,10 +77,11 @@ left-rear-turned a = crawler-of (bits 0x3e00_0000) (bits 0x3e00_0000) one-leg (t
 abbrev pub crawler : Configuration
 crawler = left-rear-turned (bits 0)
 
--- six feet in row order
+-- six feet in row order, all standing
 abbrev pub six : Point → Point → Point → Point → Point → Point → Feet
 six lf rf lm rm lr rr =
-    record { «left_front» = lf; «left_middle» = lm; «left_rear» = lr; «right_front» = rf; «right_middle» = rm; «right_rear» = rr }
+    marked (λ l. false)
+    (record { «left_front» = lf; «left_middle» = lm; «left_rear» = lr; «right_front» = rf; «right_middle» = rm; «right_rear» = rr })
 
 abbrev pub all-ahead : Feet
 all-ahead = six ahead ahead ahead ahead ahead ahead

@@ -1,17 +1,18 @@
 -- Document 01, "Joints": where the six feet stand at given motor angles. Formulas and order of operations as in the source, over our sine
 -- and cosine.
 use Prim.Native.Nat.{ℕ}
-use mathlib.Core.Bool.{_&&_}
+use mathlib.Core.Bool.{false, _&&_}
 use mathlib.Core.List.{[], _∷_}
 use lib.Ieee.{Float, binary32, ofBits, add, sub, mul, neg}
 use Rattle.numbers.specs.Told.{Told, answer}
 use Rattle.numbers.specs.Door.{unless, firstOf}
 use Rattle.numbers.specs.Finite.{magnitude}
 use Rattle.sines.specs.How.{sine, cosine}
-use Rattle.legs.specs.Legs.{angles, feet}
+use Rattle.legs.specs.Legs.{angles, sixPoints, marked}
 use Rattle.legs.specs.Vectors.{plus}
 use Rattle.legs.specs.Answers.{givenFeet}
 use Rattle.legs.specs.declared.Point.{Point}
+use Rattle.legs.specs.declared.Points.{Points}
 use Rattle.legs.specs.declared.Feet.{Feet}
 use Rattle.legs.specs.declared.LegAngles.{LegAngles}
 use Rattle.legs.specs.declared.Joints.{Joints}
@@ -70,8 +71,12 @@ standing m b l =
     (femurVector (baseAngle m l) (femurTurn m b l) (b .«femur_length»)))
     (tibiaVector (baseAngle m l) (tibiaTurn m b l) (b .«tibia_length»))
 
-unfoldable pub standingFeet : Joints → Configuration → Feet
-standingFeet j c = feet (λ l. standing (angles j l) (c .body) (leg c l))
+unfoldable pub standingPoints : Joints → Configuration → Points
+standingPoints j c = sixPoints (λ l. standing (angles j l) (c .body) (leg c l))
+
+-- none is lifted, for motors say nothing of lifting (request K12)
+abbrev pub standingFeet : Joints → Configuration → Feet
+standingFeet j c = marked (λ l. false) (standingPoints j c)
 
 -- 1: a float is NaN or infinite; 2: one is outside the table
 unfoldable pub fkRefusal : Joints → Configuration → ℕ

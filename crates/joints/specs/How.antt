@@ -5,7 +5,7 @@ use mathlib.Core.List.{List, [], _∷_}
 use lib.Dec.{eqb}
 use lib.Ieee.{Float}
 use Rattle.numbers.specs.Told.{Told, choose}
-use Rattle.legs.specs.Legs.{Leg, leftFront, rightFront, leftMiddle, rightMiddle, leftRear, rightRear, row, joints}
+use Rattle.legs.specs.Legs.{Leg, leftFront, rightFront, leftMiddle, rightMiddle, leftRear, rightRear, row, foot, joints}
 use Rattle.legs.specs.declared.Point.{Point}
 use Rattle.legs.specs.declared.Feet.{Feet}
 use Rattle.legs.specs.declared.LegAngles.{LegAngles}
@@ -41,12 +41,12 @@ heading target b l =
 unfoldable pub headings : Feet → Configuration → Headings
 headings f c =
     record {
-      «left_front» = heading (f .«left_front») (c .body) (c .«left_front»);
-      «left_middle» = heading (f .«left_middle») (c .body) (c .«left_middle»);
-      «left_rear» = heading (f .«left_rear») (c .body) (c .«left_rear»);
-      «right_front» = heading (f .«right_front») (c .body) (c .«right_front»);
-      «right_middle» = heading (f .«right_middle») (c .body) (c .«right_middle»);
-      «right_rear» = heading (f .«right_rear») (c .body) (c .«right_rear»);
+      «left_front» = heading (foot f leftFront) (c .body) (c .«left_front»);
+      «left_middle» = heading (foot f leftMiddle) (c .body) (c .«left_middle»);
+      «left_rear» = heading (foot f leftRear) (c .body) (c .«left_rear»);
+      «right_front» = heading (foot f rightFront) (c .body) (c .«right_front»);
+      «right_middle» = heading (foot f rightMiddle) (c .body) (c .«right_middle»);
+      «right_rear» = heading (foot f rightRear) (c .body) (c .«right_rear»);
     }
 
 abbrev pub headingOf : Headings → Leg → Heading

@@ -6,13 +6,14 @@ use legs::Feet;
 use legs::Joints;
 use legs::LegAngles;
 use legs::Point;
+use legs::Points;
 ghost use mathlib.Core.Bool.{_||_};
 ghost use mathlib.Core.Path.{_≡_};
 ghost use Rattle.joints.specs.Answers.{toldLegs};
 ghost use Rattle.joints.specs.Inverse.{relativeVector, getAlphaAngle, corrected, pastPositive, pastNegative, legsTold};
 ghost use Rattle.joints.specs.Strict.{farthest, nearest, distanceRefusal, strictLegsTold};
 ghost use Rattle.joints.specs.How.{distances, heading, headings, solvedAngles, pastAt, earlier, firstPast, firstOutOfReach};
-ghost use Rattle.joints.specs.Forward.{fromMotor, standing, standingFeet};
+ghost use Rattle.joints.specs.Forward.{fromMotor, standing, standingPoints};
 
 // Rust's `to_radians` of 90 and 150 degrees: 3fc90fdb and 40278d36.
 const NINETY: f32 = 1.5707964;
@@ -108,18 +109,18 @@ pub fn set_out(target: Point, body: Body, leg: LegConfiguration) -> Heading
     }
 }
 
-// How six legs set out: all before one is solved, so that their roots are taken side by side.
+// How six legs set out, by their feet's points: all before one is solved, so that their roots are taken side by side.
 pub fn all_set_out(feet: Feet, config: Configuration) -> Headings
     ensures { λ r. ⌜ r ≡ headings feet config ⌝ }
 {
     let body = config.body;
     Headings {
-        left_front: set_out(feet.left_front, body, config.left_front),
-        left_middle: set_out(feet.left_middle, body, config.left_middle),
-        left_rear: set_out(feet.left_rear, body, config.left_rear),
-        right_front: set_out(feet.right_front, body, config.right_front),
-        right_middle: set_out(feet.right_middle, body, config.right_middle),
-        right_rear: set_out(feet.right_rear, body, config.right_rear),
+        left_front: set_out(feet.left_front.point, body, config.left_front),
+        left_middle: set_out(feet.left_middle.point, body, config.left_middle),
+        left_rear: set_out(feet.left_rear.point, body, config.left_rear),
+        right_front: set_out(feet.right_front.point, body, config.right_front),
+        right_middle: set_out(feet.right_middle.point, body, config.right_middle),
+        right_rear: set_out(feet.right_rear.point, body, config.right_rear),
     }
 }
 
@@ -320,12 +321,12 @@ pub fn calculate_fk_for_leg(motors: LegAngles, body: Body, leg: LegConfiguration
     }
 }
 
-// Six feet, leg by leg.
-pub fn calculate_fk(joints: Joints, config: Configuration) -> Feet
-    ensures { λ r. ⌜ r ≡ standingFeet joints config ⌝ }
+// Six points, leg by leg.
+pub fn calculate_fk(joints: Joints, config: Configuration) -> Points
+    ensures { λ r. ⌜ r ≡ standingPoints joints config ⌝ }
 {
     let body = config.body;
-    Feet {
+    Points {
         left_front: calculate_fk_for_leg(joints.left_front, body, config.left_front),
         left_middle: calculate_fk_for_leg(joints.left_middle, body, config.left_middle),
         left_rear: calculate_fk_for_leg(joints.left_rear, body, config.left_rear),

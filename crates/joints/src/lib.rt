@@ -48,7 +48,7 @@ fn answered(legs: core::LegsSolved) -> Solution
     }
 }
 
-// The joint angles that put the six feet there.
+// The joint angles that put the six feet there, lifted or not.
 pub fn calculate_ik(feet: Feet, config: Configuration) -> Solution
     ensures { λ r. ⌜ told r ≡ ikTold feet config ⌝ }
 {
@@ -85,13 +85,13 @@ pub fn fk_refused(joints: Joints, config: Configuration) -> u32
     }
 }
 
-// Where the feet stand at these joint angles.
+// Where the feet are at these joint angles. All stand: motors say nothing of lifting.
 pub fn calculate_fk(joints: Joints, config: Configuration) -> Planned
     ensures { λ r. ⌜ toldFeet r ≡ fkTold joints config ⌝ }
 {
     let n = fk_refused(joints, config);
     if n == 0 {
-        Planned::Feet(core::calculate_fk(joints, config))
+        Planned::Feet(legs::core::standing(core::calculate_fk(joints, config)))
     } else {
         Planned::Refused(n)
     }

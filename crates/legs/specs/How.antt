@@ -1,14 +1,14 @@
--- How ours fills a row of six: from the last leg to the first, each point before those that stand there. Nothing here is
+-- How ours fills a row of six: from the last leg to the first, each foot before those that are there. Nothing here is
 -- document 01's.
 use Prim.Native.Nat.{_+_}
 use mathlib.Core.Bool.{Bool, _&&_}
 use lib.Dec.{ltb}
 use Rattle.numbers.specs.Told.{choose}
-use Rattle.legs.specs.declared.Point.{Point}
+use Rattle.legs.specs.declared.Foot.{Foot}
 use Rattle.legs.specs.declared.RowOfSix.{RowOfSix}
 
 -- with p in the first place and the others each one place on, where the flag stands and there is room
-unfoldable pub headedBy : RowOfSix → Bool → Point → RowOfSix
+unfoldable pub headedBy : RowOfSix → Bool → Foot → RowOfSix
 headedBy s flag p =
     choose (flag && ltb (s .len) 6)
     (record {

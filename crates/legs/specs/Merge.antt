@@ -1,4 +1,4 @@
--- Document 01: "`merge_with` takes exactly the flagged legs from the second set."
+-- Document 01: "`merge_with` takes exactly the flagged legs from the second set." Request K12: "Merging takes point and mark together".
 use Prim.Native.Nat.{ℕ}
 use mathlib.Core.Bool.{Bool, _&&_}
 use mathlib.Core.List.{List, [], _∷_}
@@ -6,13 +6,13 @@ use lib.Dec.{ltb}
 use Rattle.numbers.specs.Told.{Told, choose, answer}
 use Rattle.numbers.specs.Door.{unless, when, firstOf}
 use Rattle.numbers.specs.Limits.{maskTo, footLimit}
-use Rattle.legs.specs.Legs.{foot, feet, finiteFeet, permittedFeet}
+use Rattle.legs.specs.Legs.{whole, feet, finiteFeet, permittedFeet}
 use Rattle.legs.specs.Masks.{has}
 use Rattle.legs.specs.Answers.{givenFeet}
 use Rattle.legs.specs.declared.Feet.{Feet}
 
 unfoldable pub merged : Feet → Feet → ℕ → Feet
-merged a b m = feet (λ l. choose (has m l) (foot b l) (foot a l))
+merged a b m = feet (λ l. choose (has m l) (whole b l) (whole a l))
 
 -- 1: a float is NaN or infinite; 2: one is outside the table; 4: the mask is above 63
 unfoldable pub mergeRefusal : Feet → Feet → ℕ → ℕ

@@ -1,6 +1,8 @@
 // The operations behind the door, total on every value, for the rooms above.
 use crate::Feet;
+use crate::Foot;
 use crate::Point;
+use crate::Points;
 use crate::RowOfSix;
 use numbers::door;
 use numbers::door::Limit;
@@ -11,14 +13,73 @@ ghost use lib.Dec.{ltb};
 ghost use Rattle.numbers.specs.Told.{choose};
 ghost use Rattle.numbers.specs.Door.{permits, when};
 ghost use Rattle.numbers.specs.Limits.{maskTo};
-ghost use Rattle.legs.specs.Legs.{finitePoint, permittedPoint, finiteFeet, permittedFeet};
+ghost use mathlib.Core.Bool.{false};
+ghost use Rattle.legs.specs.Legs.{points, lifted, marked, finitePoint, permittedPoint, finiteFeet, permittedFeet};
 ghost use Rattle.legs.specs.Merge.{merged};
 ghost use Rattle.legs.specs.Select.{inSixPlaces, selected};
 ghost use Rattle.legs.specs.How.{headedBy};
 ghost use Rattle.legs.specs.Update.{updated};
 
-// The first point where the flag stands, else the second.
-pub fn chosen(flag: bool, p: Point, q: Point) -> Point
+// The six points of six feet.
+pub fn points_of(feet: Feet) -> Points
+    ensures { λ r. ⌜ r ≡ points feet ⌝ }
+{
+    let left_front = feet.left_front.point;
+    let left_middle = feet.left_middle.point;
+    let left_rear = feet.left_rear.point;
+    let right_front = feet.right_front.point;
+    let right_middle = feet.right_middle.point;
+    let right_rear = feet.right_rear.point;
+    Points {
+        left_front: left_front,
+        left_middle: left_middle,
+        left_rear: left_rear,
+        right_front: right_front,
+        right_middle: right_middle,
+        right_rear: right_rear,
+    }
+}
+
+// A foot at this point, with this mark.
+pub fn foot_at(point: Point, lifted: bool) -> Foot
+    ensures { λ r. ⌜ r ≡ record { point = point; lifted = lifted } ⌝ }
+{
+    Foot {
+        point: point,
+        lifted: lifted,
+    }
+}
+
+// Feet at these points, with the marks that other feet have.
+pub fn marked_as(feet: Feet, points: Points) -> Feet
+    ensures { λ r. ⌜ r ≡ marked (lifted feet) points ⌝ }
+{
+    Feet {
+        left_front: foot_at(points.left_front, feet.left_front.lifted),
+        left_middle: foot_at(points.left_middle, feet.left_middle.lifted),
+        left_rear: foot_at(points.left_rear, feet.left_rear.lifted),
+        right_front: foot_at(points.right_front, feet.right_front.lifted),
+        right_middle: foot_at(points.right_middle, feet.right_middle.lifted),
+        right_rear: foot_at(points.right_rear, feet.right_rear.lifted),
+    }
+}
+
+// Feet at these points, all standing.
+pub fn standing(points: Points) -> Feet
+    ensures { λ r. ⌜ r ≡ marked (λ l. false) points ⌝ }
+{
+    Feet {
+        left_front: foot_at(points.left_front, false),
+        left_middle: foot_at(points.left_middle, false),
+        left_rear: foot_at(points.left_rear, false),
+        right_front: foot_at(points.right_front, false),
+        right_middle: foot_at(points.right_middle, false),
+        right_rear: foot_at(points.right_rear, false),
+    }
+}
+
+// The first foot where the flag stands, else the second.
+pub fn chosen(flag: bool, p: Foot, q: Foot) -> Foot
     ensures { λ r. ⌜ r ≡ choose flag p q ⌝ }
 {
     if flag { p } else { q }
@@ -38,26 +99,28 @@ pub fn point_permitted(limit: Limit, p: Point) -> bool
     door::is_permitted(limit, p.x) & door::is_permitted(limit, p.y) & door::is_permitted(limit, p.z)
 }
 
+// Whether all eighteen coordinates are finite. A foot's mark is no number.
 pub fn feet_finite(f: Feet) -> bool
     ensures { λ r. ⌜ r ≡ finiteFeet f ⌝ }
 {
-    point_finite(f.left_front)
-        & point_finite(f.right_front)
-        & point_finite(f.left_middle)
-        & point_finite(f.right_middle)
-        & point_finite(f.left_rear)
-        & point_finite(f.right_rear)
+    point_finite(f.left_front.point)
+        & point_finite(f.right_front.point)
+        & point_finite(f.left_middle.point)
+        & point_finite(f.right_middle.point)
+        & point_finite(f.left_rear.point)
+        & point_finite(f.right_rear.point)
 }
 
+// Whether all eighteen lie between the ends.
 pub fn feet_permitted(limit: Limit, f: Feet) -> bool
     ensures { λ r. ⌜ r ≡ permittedFeet limit f ⌝ }
 {
-    point_permitted(limit, f.left_front)
-        & point_permitted(limit, f.right_front)
-        & point_permitted(limit, f.left_middle)
-        & point_permitted(limit, f.right_middle)
-        & point_permitted(limit, f.left_rear)
-        & point_permitted(limit, f.right_rear)
+    point_permitted(limit, f.left_front.point)
+        & point_permitted(limit, f.right_front.point)
+        & point_permitted(limit, f.left_middle.point)
+        & point_permitted(limit, f.right_middle.point)
+        & point_permitted(limit, f.left_rear.point)
+        & point_permitted(limit, f.right_rear.point)
 }
 
 // 4 for a mask that names more than six legs, else 0.
@@ -90,19 +153,23 @@ fn none_selected() -> RowOfSix
         y: 0.0,
         z: 0.0,
     };
+    let unused = Foot {
+        point: origin,
+        lifted: false,
+    };
     RowOfSix {
         len: 0,
-        first: origin,
-        second: origin,
-        third: origin,
-        fourth: origin,
-        fifth: origin,
-        sixth: origin,
+        first: unused,
+        second: unused,
+        third: unused,
+        fourth: unused,
+        fifth: unused,
+        sixth: unused,
     }
 }
 
 // With p in the first place and the others each one place on, where the flag stands. A full row stays.
-fn headed_by(s: RowOfSix, flag: bool, p: Point) -> RowOfSix
+fn headed_by(s: RowOfSix, flag: bool, p: Foot) -> RowOfSix
     ensures { λ r. ⌜ r ≡ headedBy s flag p ⌝ }
 {
     let len = s.len;
@@ -126,7 +193,7 @@ fn headed_by(s: RowOfSix, flag: bool, p: Point) -> RowOfSix
     }
 }
 
-// The flagged legs' points, in row order: from the last leg to the first, each before those after it.
+// The flagged legs' feet, in row order: from the last leg to the first, each before those after it.
 pub fn selected_legs(feet: Feet, mask: u32) -> RowOfSix
     ensures { λ r. ⌜ r ≡ selected feet mask ⌝ }
 {
@@ -139,8 +206,8 @@ pub fn selected_legs(feet: Feet, mask: u32) -> RowOfSix
     headed_by(s, mask / 1 % 2 == 1, feet.left_front)
 }
 
-// The flagged legs take the row's points in row order, the others stay.
-pub fn updated(feet: Feet, row: [Point; 6], mask: u32) -> Feet
+// The flagged legs take the row's feet in row order, the others stay.
+pub fn updated(feet: Feet, row: [Foot; 6], mask: u32) -> Feet
     ensures { λ r. ⌜ r ≡ updated feet row mask ⌝ }
 {
     let second = (mask / 1 % 2) as usize;

@@ -1,9 +1,9 @@
-// Six legs: foot points and joint angles by leg, masks of legs, selection and merge (source 003).
+// Six legs: feet and joint angles by leg, masks of legs, selection and merge (source 003).
 // Lengths are metres, angles radians.
 use numbers::door;
 ghost use mathlib.Core.Path.{_≡_};
 ghost use Rattle.legs.specs.Answers.{told, toldSelected};
-ghost use Rattle.legs.specs.Legs.{row, foot, fromRow};
+ghost use Rattle.legs.specs.Legs.{row, whole, fromRow};
 ghost use Rattle.legs.specs.Merge.{mergeRefusal, mergeTold};
 ghost use Rattle.legs.specs.Select.{selectRefusal, selectTold};
 
@@ -16,14 +16,30 @@ pub struct Point {
     pub z: f32,
 }
 
-// Six foot points.
-pub struct Feet {
+// Six points, by leg: what is computed of feet.
+pub struct Points {
     pub left_front: Point,
     pub left_middle: Point,
     pub left_rear: Point,
     pub right_front: Point,
     pub right_middle: Point,
     pub right_rear: Point,
+}
+
+// A foot: where it is, and whether it is lifted. One that is not stands.
+pub struct Foot {
+    pub point: Point,
+    pub lifted: bool,
+}
+
+// Six feet.
+pub struct Feet {
+    pub left_front: Foot,
+    pub left_middle: Foot,
+    pub left_rear: Foot,
+    pub right_front: Foot,
+    pub right_middle: Foot,
+    pub right_rear: Foot,
 }
 
 // The three joint angles of a leg.
@@ -49,26 +65,26 @@ pub enum Planned {
     Refused(u32),
 }
 
-// A row of six with a length: that many places count, from the first on. The others hold +0.
+// A row of six with a length: that many places count, from the first on. The others hold +0 and stand.
 pub struct RowOfSix {
     pub len: usize,
-    pub first: Point,
-    pub second: Point,
-    pub third: Point,
-    pub fourth: Point,
-    pub fifth: Point,
-    pub sixth: Point,
+    pub first: Foot,
+    pub second: Foot,
+    pub third: Foot,
+    pub fourth: Foot,
+    pub fifth: Foot,
+    pub sixth: Foot,
 }
 
-// What a selection answers: the selected legs' points, or why not.
+// What a selection answers: the selected feet, or why not.
 pub enum Selected {
     Legs(RowOfSix),
     Refused(u32),
 }
 
 // The feet as a row: left front, right front, left middle, right middle, left rear, right rear.
-pub fn as_legs(feet: Feet) -> [Point; 6]
-    ensures { λ r. ⌜ r ≡ row (foot feet) ⌝ }
+pub fn as_legs(feet: Feet) -> [Foot; 6]
+    ensures { λ r. ⌜ r ≡ row (whole feet) ⌝ }
 {
     let left_front = feet.left_front;
     let right_front = feet.right_front;
@@ -87,7 +103,7 @@ pub fn as_legs(feet: Feet) -> [Point; 6]
 }
 
 // The feet of such a row.
-pub fn from_legs(legs: [Point; 6]) -> Feet
+pub fn from_legs(legs: [Foot; 6]) -> Feet
     ensures { λ r. ⌜ r ≡ fromRow legs ⌝ }
 {
     Feet {
@@ -112,7 +128,7 @@ pub fn merge_refused(a: Feet, b: Feet, mask: u32) -> u32
     }
 }
 
-// Exactly the flagged legs from b, the others from a.
+// Exactly the flagged legs from b, the others from a; a foot's mark goes with its point.
 pub fn merge_with(a: Feet, b: Feet, mask: u32) -> Planned
     ensures { λ r. ⌜ told r ≡ mergeTold a b mask ⌝ }
 {
@@ -136,7 +152,7 @@ pub fn selected_refused(feet: Feet, mask: u32) -> u32
     }
 }
 
-// The flagged legs' points, in row order.
+// The flagged legs' feet, in row order.
 pub fn selected_legs(feet: Feet, mask: u32) -> Selected
     ensures { λ r. ⌜ toldSelected r ≡ selectTold feet mask ⌝ }
 {

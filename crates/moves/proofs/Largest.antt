@@ -13,9 +13,9 @@ use lib.Ieee.{Float, nan, inf, fin, binary32, Format, prec, emax, low, up, down,
 use lib.Ieee.Fits.{round-is, add-fits}
 use lib.Ieee.Exact.{HasValue}
 use Rattle.numbers.specs.Told.{choose}
-use Rattle.legs.specs.Legs.{Leg, leftFront, rightFront, leftMiddle, rightMiddle, leftRear, rightRear, row, foot}
+use Rattle.legs.specs.Legs.{Leg, leftFront, rightFront, leftMiddle, rightMiddle, leftRear, rightRear, row, point}
 use Rattle.legs.specs.declared.Point.{Point}
-use Rattle.legs.specs.declared.Feet.{Feet}
+use Rattle.legs.specs.declared.Points.{Points}
 use Rattle.moves.specs.Distance.{apart², squareSum, horizontalSum, distance, horizontalDistance}
 use Rattle.moves.specs.Distance.{largestFrom, largest, longestDistance, maxHorizontalDistance}
 use Rattle.numbers.specs.Finite.{greater}
@@ -256,11 +256,12 @@ horizontal-sum-rootable a b =
       from-zero = add-upward x y (square-upward (sub binary32 (b .x) (a .x))) (square-upward (sub binary32 (b .y) (a .y)));
     }
 
-pub longest-is-one-root : (a b : Feet) → squareRoot (largest (row (λ l. squareSum (foot a l) (foot b l)))) ≡ longestDistance a b
+pub longest-is-one-root : (a b : Points) → squareRoot (largest (row (λ l. squareSum (point a l) (point b l)))) ≡ longestDistance a b
 unfolding longestDistance distance
-longest-is-one-root a b = root-of-largest (λ l. squareSum (foot a l) (foot b l)) (λ l. square-sum-rootable (foot a l) (foot b l))
+longest-is-one-root a b = root-of-largest (λ l. squareSum (point a l) (point b l)) (λ l. square-sum-rootable (point a l) (point b l))
 
-pub horizontal-is-one-root : (a b : Feet)
-    → squareRoot (largest (row (λ l. horizontalSum (foot a l) (foot b l)))) ≡ maxHorizontalDistance a b
+pub horizontal-is-one-root : (a b : Points)
+    → squareRoot (largest (row (λ l. horizontalSum (point a l) (point b l)))) ≡ maxHorizontalDistance a b
 unfolding maxHorizontalDistance horizontalDistance
-horizontal-is-one-root a b = root-of-largest (λ l. horizontalSum (foot a l) (foot b l)) (λ l. horizontal-sum-rootable (foot a l) (foot b l))
+horizontal-is-one-root a b =
+    root-of-largest (λ l. horizontalSum (point a l) (point b l)) (λ l. horizontal-sum-rootable (point a l) (point b l))

@@ -6,4 +6,5 @@ pub mod Steps
 pub mod OneMove
 pub mod Examples
 pub mod FootByFoot
+pub mod Marks
 pub mod OneAnswer

@@ -1,17 +1,20 @@
--- What is told of an answer on moves loses nothing of it, so no second answer fits a contract stated by it.
+-- What is told of an answer on moves loses nothing of it, so no second answer fits a contract stated by it. An answer on six feet is read
+-- back from its marks and floats together.
 use mathlib.Core.Path.{_≡_, refl, sym, ap, ap₂, _∙_}
-use mathlib.Core.List.{List, [], _∷_}
-use Prim.Native.Nat.{ℕ}
+use mathlib.Core.List.{List, [], _∷_, _++_}
+use Prim.Native.Nat.{ℕ, zero, suc, _+_}
 use native.Mathlib.Omega.{arith}
 use lib.ListN.{getD, take, drop}
 use lib.Ieee.{Float, nan}
 use Rattle.numbers.specs.Told.{Told, refused}
-use Rattle.legs.specs.Legs.{coordinates, nowhere}
-use Rattle.legs.proofs.OneAnswer.{points-from-values, feet-from-values}
+use Rattle.numbers.proofs.OneAnswer.{undone}
+use Rattle.legs.specs.Legs.{coordinates}
+use Rattle.legs.proofs.OneAnswer.{point-at, feet-at, marks-back}
+use Rattle.legs.specs.Answers.{lifts}
 use Rattle.legs.specs.declared.Point.{Point}
 use Rattle.legs.specs.declared.Feet.{Feet}
 use Rattle.moves.specs.Answers.{toldStep, told, toldFeetStep, toldFeet, ofMovingPoint}
-use Rattle.moves.specs.Answers.{ofMovingFeet, toldPointIter, toldFeetIter, toldNextPoint, toldNextFeet}
+use Rattle.moves.specs.Answers.{ofFeet, ofMovingFeet, liftsOfMoving, toldPointIter, toldFeetIter, toldNextPoint, toldNextFeet}
 use Rattle.moves.specs.Iterators.{movingPoint, movingFeet}
 use Rattle.moves.specs.declared.MoveStep.{MoveStep}
 use Rattle.moves.specs.declared.MoveStep.the-variants.{Moved, Arrived}
@@ -51,7 +54,7 @@ moved-or-not e = let z : _≡_ {A = ℕ} 1 0 = cc in omega arith
 
 -- a point and a state are settled by their floats
 pub point-from-values : (p q : Point) → coordinates p ≡ coordinates q → p ≡ q
-point-from-values p q e = ap (λ (ps : List Point). getD ps 0 nowhere) (points-from-values (p ∷ []) (q ∷ []) e)
+point-from-values p q e = ap (λ (xs : List Float). point-at xs 0) e
 
 pub moving-point-from-values : (s r : MovingPoint) → ofMovingPoint s ≡ ofMovingPoint r → s ≡ r
 moving-point-from-values s r e =
@@ -60,13 +63,6 @@ moving-point-from-values s r e =
     (point-from-values (s .target) (r .target) (ap (λ (xs : List Float). take 3 (drop 3 xs)) e))
     (ap (λ (xs : List Float). getD xs 6 nan) e)
 
-pub moving-feet-from-values : (s r : MovingFeet) → ofMovingFeet s ≡ ofMovingFeet r → s ≡ r
-moving-feet-from-values s r e =
-    ap (λ (f : Feet). movingFeet f (s .target) (s .«max_move»)) (feet-from-values (s .last) (r .last) (ap (take 18) e))
-    ∙ ap₂ (λ (f : Feet) (x : Float). movingFeet (r .last) f x)
-    (feet-from-values (s .target) (r .target) (ap (λ (xs : List Float). take 18 (drop 18 xs)) e))
-    (ap (λ (xs : List Float). getD xs 36 nan) e)
-
 -- steps
 pub toldStep-loses-nothing : (a b : MoveStep) → toldStep a ≡ toldStep b → a ≡ b
 toldStep-loses-nothing (Moved p) (Moved q) e = ap Moved (point-from-values p q (floats e))
@@ -74,20 +70,10 @@ toldStep-loses-nothing (Moved p) (Arrived q) e = absurd (moved-or-not (marks e))
 toldStep-loses-nothing (Arrived p) (Moved q) e = absurd (moved-or-not (sym (marks e)))
 toldStep-loses-nothing (Arrived p) (Arrived q) e = ap Arrived (point-from-values p q (floats e))
 
-pub toldFeetStep-loses-nothing : (a b : FeetStep) → toldFeetStep a ≡ toldFeetStep b → a ≡ b
-toldFeetStep-loses-nothing (FeetMoved f) (FeetMoved g) e = ap FeetMoved (feet-from-values f g (floats e))
-toldFeetStep-loses-nothing (FeetMoved f) (FeetArrived g) e = absurd (moved-or-not (marks e))
-toldFeetStep-loses-nothing (FeetArrived f) (FeetMoved g) e = absurd (moved-or-not (sym (marks e)))
-toldFeetStep-loses-nothing (FeetArrived f) (FeetArrived g) e = ap FeetArrived (feet-from-values f g (floats e))
-
 -- a step has a mark, and a refusal has none
 step-marked : (s : MoveStep) (n : ℕ) → toldStep s ≡ refused n → ⊥
 step-marked (Moved p) n e = full 1 [] (marks e)
 step-marked (Arrived p) n e = full 0 [] (marks e)
-
-feet-marked : (s : FeetStep) (n : ℕ) → toldFeetStep s ≡ refused n → ⊥
-feet-marked (FeetMoved f) n e = full 1 [] (marks e)
-feet-marked (FeetArrived f) n e = full 0 [] (marks e)
 
 -- the entries' answers
 pub told-loses-nothing : (a b : Towards) → told a ≡ told b → a ≡ b
@@ -96,23 +82,11 @@ told-loses-nothing (Answered s) (Refused n) e = absurd (step-marked s n e)
 told-loses-nothing (Refused n) (Answered r) e = absurd (step-marked r n (sym e))
 told-loses-nothing (Refused n) (Refused k) e = ap Refused (number e)
 
-pub toldFeet-loses-nothing : (a b : FeetTowards) → toldFeet a ≡ toldFeet b → a ≡ b
-toldFeet-loses-nothing (FeetAnswered s) (FeetAnswered r) e = ap FeetAnswered (toldFeetStep-loses-nothing s r e)
-toldFeet-loses-nothing (FeetAnswered s) (FeetRefused n) e = absurd (feet-marked s n e)
-toldFeet-loses-nothing (FeetRefused n) (FeetAnswered r) e = absurd (feet-marked r n (sym e))
-toldFeet-loses-nothing (FeetRefused n) (FeetRefused k) e = ap FeetRefused (number e)
-
 pub toldPointIter-loses-nothing : (a b : PointIter) → toldPointIter a ≡ toldPointIter b → a ≡ b
 toldPointIter-loses-nothing (PointState s) (PointState r) e = ap PointState (moving-point-from-values s r (floats e))
 toldPointIter-loses-nothing (PointState s) (PointIterRefused n) e = absurd (full _ _ (floats e))
 toldPointIter-loses-nothing (PointIterRefused n) (PointState r) e = absurd (full _ _ (sym (floats e)))
 toldPointIter-loses-nothing (PointIterRefused n) (PointIterRefused k) e = ap PointIterRefused (number e)
-
-pub toldFeetIter-loses-nothing : (a b : FeetIter) → toldFeetIter a ≡ toldFeetIter b → a ≡ b
-toldFeetIter-loses-nothing (FeetState s) (FeetState r) e = ap FeetState (moving-feet-from-values s r (floats e))
-toldFeetIter-loses-nothing (FeetState s) (FeetIterRefused n) e = absurd (full _ _ (floats e))
-toldFeetIter-loses-nothing (FeetIterRefused n) (FeetState r) e = absurd (full _ _ (sym (floats e)))
-toldFeetIter-loses-nothing (FeetIterRefused n) (FeetIterRefused k) e = ap FeetIterRefused (number e)
 
 pub toldNextPoint-loses-nothing : (a b : NextPoint) → toldNextPoint a ≡ toldNextPoint b → a ≡ b
 toldNextPoint-loses-nothing (PointMoved p s) (PointMoved q r) e =
@@ -126,14 +100,65 @@ toldNextPoint-loses-nothing (NextPointRefused n) (PointMoved q r) e = absurd (fu
 toldNextPoint-loses-nothing (NextPointRefused n) PointDone e = absurd (full 0 [] (sym (marks e)))
 toldNextPoint-loses-nothing (NextPointRefused n) (NextPointRefused k) e = ap NextPointRefused (number e)
 
+-- ---- six feet
+-- a step: its first mark says which
+step-of : List ℕ → List Float → FeetStep
+step-of [] xs = FeetArrived (feet-at [] 0 xs 0)
+step-of (zero ∷ ks) xs = FeetArrived (feet-at ks 0 xs 0)
+step-of (suc k ∷ ks) xs = FeetMoved (feet-at ks 0 xs 0)
+
+step-back : (s : FeetStep) → step-of (toldFeetStep s .marks) (toldFeetStep s .values) ≡ s
+unfolding step-of
+step-back (FeetMoved f) = ap FeetMoved (marks-back f)
+step-back (FeetArrived f) = ap FeetArrived (marks-back f)
+
+pub toldFeetStep-loses-nothing : (a b : FeetStep) → toldFeetStep a ≡ toldFeetStep b → a ≡ b
+toldFeetStep-loses-nothing = undone toldFeetStep (λ t. step-of (t .marks) (t .values)) step-back
+
+-- a refusal has no marks
+towards-of : List ℕ → Told → FeetTowards
+towards-of [] t = FeetRefused (t .number)
+towards-of (k ∷ ks) t = FeetAnswered (step-of (k ∷ ks) (t .values))
+
+towards-back : (a : FeetTowards) → towards-of (toldFeet a .marks) (toldFeet a) ≡ a
+unfolding towards-of
+towards-back (FeetAnswered (FeetMoved f)) = ap FeetAnswered (step-back (FeetMoved f))
+towards-back (FeetAnswered (FeetArrived f)) = ap FeetAnswered (step-back (FeetArrived f))
+towards-back (FeetRefused n) = refl
+
+pub toldFeet-loses-nothing : (a b : FeetTowards) → toldFeet a ≡ toldFeet b → a ≡ b
+toldFeet-loses-nothing = undone toldFeet (λ t. towards-of (t .marks) t) towards-back
+
+-- a state, from a place among the marks and one among the floats on: last, target, max move
+state-of : List ℕ → ℕ → List Float → ℕ → MovingFeet
+state-of ks i xs k = movingFeet (feet-at ks i xs k) (feet-at ks (i + 6) xs (k + 18)) (getD xs (k + 36) nan)
+
+set-out : List ℕ → Told → FeetIter
+set-out [] t = FeetIterRefused (t .number)
+set-out (k ∷ ks) t = FeetState (state-of (k ∷ ks) 0 (t .values) 0)
+
+set-out-back : (a : FeetIter) → set-out (toldFeetIter a .marks) (toldFeetIter a) ≡ a
+unfolding set-out state-of
+set-out-back (FeetState s) =
+    ap₂ (λ (l t : Feet). FeetState (movingFeet l t (s .«max_move»))) (marks-back (s .last)) (marks-back (s .target))
+set-out-back (FeetIterRefused n) = refl
+
+pub toldFeetIter-loses-nothing : (a b : FeetIter) → toldFeetIter a ≡ toldFeetIter b → a ≡ b
+toldFeetIter-loses-nothing = undone toldFeetIter (λ t. set-out (t .marks) t) set-out-back
+
+-- a step with its state, none, or a refusal
+next-of : List ℕ → Told → NextFeet
+next-of [] t = NextFeetRefused (t .number)
+next-of (zero ∷ ks) t = FeetDone
+next-of (suc k ∷ ks) t = NextFeetMoved (feet-at ks 0 (t .values) 0) (state-of ks 6 (t .values) 18)
+
+next-back : (a : NextFeet) → next-of (toldNextFeet a .marks) (toldNextFeet a) ≡ a
+unfolding next-of state-of
+next-back (NextFeetMoved f s) =
+    ap (λ (g : Feet). NextFeetMoved g (state-of (lifts f ++ liftsOfMoving s) 6 (ofFeet f ++ ofMovingFeet s) 18)) (marks-back f)
+    ∙ ap₂ (λ (l t : Feet). NextFeetMoved f (movingFeet l t (s .«max_move»))) (marks-back (s .last)) (marks-back (s .target))
+next-back FeetDone = refl
+next-back (NextFeetRefused n) = refl
+
 pub toldNextFeet-loses-nothing : (a b : NextFeet) → toldNextFeet a ≡ toldNextFeet b → a ≡ b
-toldNextFeet-loses-nothing (NextFeetMoved f s) (NextFeetMoved g r) e =
-    ap₂ NextFeetMoved (feet-from-values f g (ap (take 18) (floats e))) (moving-feet-from-values s r (ap (drop 18) (floats e)))
-toldNextFeet-loses-nothing (NextFeetMoved f s) FeetDone e = absurd (full _ _ (floats e))
-toldNextFeet-loses-nothing (NextFeetMoved f s) (NextFeetRefused n) e = absurd (full _ _ (floats e))
-toldNextFeet-loses-nothing FeetDone (NextFeetMoved g r) e = absurd (full _ _ (sym (floats e)))
-toldNextFeet-loses-nothing FeetDone FeetDone e = refl
-toldNextFeet-loses-nothing FeetDone (NextFeetRefused n) e = absurd (full 0 [] (marks e))
-toldNextFeet-loses-nothing (NextFeetRefused n) (NextFeetMoved g r) e = absurd (full _ _ (sym (floats e)))
-toldNextFeet-loses-nothing (NextFeetRefused n) FeetDone e = absurd (full 0 [] (sym (marks e)))
-toldNextFeet-loses-nothing (NextFeetRefused n) (NextFeetRefused k) e = ap NextFeetRefused (number e)
+toldNextFeet-loses-nothing = undone toldNextFeet (λ t. next-of (t .marks) t) next-back

@@ -1,8 +1,11 @@
--- Document 01's number and values for each case of an answer on moves. The mark is 1 for moved and 0 for not moved.
+-- Document 01's number and values for each case of an answer on moves. The first mark is 1 for moved and 0 for not moved; those of feet
+-- stand behind it (request K12).
+use Prim.Native.Nat.{ℕ}
 use mathlib.Core.List.{List, [], _∷_, _++_}
 use lib.Ieee.{Float}
 use Rattle.numbers.specs.Told.{Told, refused, given}
 use Rattle.legs.specs.Legs.{row, foot, coordinates, values}
+use Rattle.legs.specs.Answers.{lifts}
 use Rattle.legs.specs.declared.Feet.{Feet}
 use Rattle.moves.specs.declared.MoveStep.{MoveStep}
 use Rattle.moves.specs.declared.MoveStep.the-variants.{Moved, Arrived}
@@ -37,8 +40,8 @@ told (Answered s) = toldStep s
 told (Refused n) = refused n
 
 abbrev pub toldFeetStep : FeetStep → Told
-toldFeetStep (FeetMoved f) = given (1 ∷ []) (ofFeet f)
-toldFeetStep (FeetArrived f) = given (0 ∷ []) (ofFeet f)
+toldFeetStep (FeetMoved f) = given (1 ∷ lifts f) (ofFeet f)
+toldFeetStep (FeetArrived f) = given (0 ∷ lifts f) (ofFeet f)
 
 abbrev pub toldFeet : FeetTowards → Told
 toldFeet (FeetAnswered s) = toldFeetStep s
@@ -51,12 +54,16 @@ ofMovingPoint s = coordinates (s .last) ++ coordinates (s .target) ++ s .«max_m
 abbrev pub ofMovingFeet : MovingFeet → List Float
 ofMovingFeet s = ofFeet (s .last) ++ ofFeet (s .target) ++ s .«max_move» ∷ []
 
+-- and its marks: those of last, of target
+abbrev pub liftsOfMoving : MovingFeet → List ℕ
+liftsOfMoving s = lifts (s .last) ++ lifts (s .target)
+
 abbrev pub toldPointIter : PointIter → Told
 toldPointIter (PointState s) = given [] (ofMovingPoint s)
 toldPointIter (PointIterRefused n) = refused n
 
 abbrev pub toldFeetIter : FeetIter → Told
-toldFeetIter (FeetState s) = given [] (ofMovingFeet s)
+toldFeetIter (FeetState s) = given (liftsOfMoving s) (ofMovingFeet s)
 toldFeetIter (FeetIterRefused n) = refused n
 
 -- a step made: the new point or feet, then the state after it; none made: no floats
@@ -66,6 +73,6 @@ toldNextPoint PointDone = given (0 ∷ []) []
 toldNextPoint (NextPointRefused n) = refused n
 
 abbrev pub toldNextFeet : NextFeet → Told
-toldNextFeet (NextFeetMoved f s) = given (1 ∷ []) (ofFeet f ++ ofMovingFeet s)
+toldNextFeet (NextFeetMoved f s) = given (1 ∷ lifts f ++ liftsOfMoving s) (ofFeet f ++ ofMovingFeet s)
 toldNextFeet FeetDone = given (0 ∷ []) []
 toldNextFeet (NextFeetRefused n) = refused n

@@ -4,9 +4,9 @@ use mathlib.Core.List.{List, [], _∷_}
 use lib.Ieee.{Float, nan, binary32, add, sub, mul, eq}
 use Rattle.numbers.specs.Finite.{greater}
 use Rattle.roots.specs.Root.{squareRoot}
-use Rattle.legs.specs.Legs.{row, foot}
+use Rattle.legs.specs.Legs.{row, point}
 use Rattle.legs.specs.declared.Point.{Point}
-use Rattle.legs.specs.declared.Feet.{Feet}
+use Rattle.legs.specs.declared.Points.{Points}
 
 -- what holds of all three coordinates
 abbrev pub Each : (Float → Type 0) → Point → Type 0
@@ -47,9 +47,9 @@ largest [] = nan
 largest (x ∷ xs) = largestFrom x xs
 
 -- "`longest_distance` of 001 is the largest of the six in x, y and z"
-unfoldable pub longestDistance : Feet → Feet → Float
-longestDistance a b = largest (row (λ l. distance (foot a l) (foot b l)))
+unfoldable pub longestDistance : Points → Points → Float
+longestDistance a b = largest (row (λ l. distance (point a l) (point b l)))
 
 -- "longest means the largest of the six distances taken in x and y only, as in 000"
-unfoldable pub maxHorizontalDistance : Feet → Feet → Float
-maxHorizontalDistance a b = largest (row (λ l. horizontalDistance (foot a l) (foot b l)))
+unfoldable pub maxHorizontalDistance : Points → Points → Float
+maxHorizontalDistance a b = largest (row (λ l. horizontalDistance (point a l) (point b l)))

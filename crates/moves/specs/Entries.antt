@@ -2,6 +2,7 @@
 use mathlib.Core.List.{[], _∷_}
 use lib.Ieee.{Float}
 use Rattle.numbers.specs.Told.{Told, given, answer}
+use Rattle.legs.specs.Legs.{points}
 use Rattle.legs.specs.declared.Point.{Point}
 use Rattle.legs.specs.declared.Feet.{Feet}
 use Rattle.moves.specs.Distance.{longestDistance}
@@ -16,4 +17,4 @@ unfoldable pub moveFeetTold : Feet → Feet → Float → Told
 moveFeetTold l t m = answer (moveFeetRefusal l t m) (toldFeetStep (moveFeetTowards l t m))
 
 unfoldable pub longestTold : Feet → Feet → Told
-longestTold a b = answer (longestRefusal a b) (given [] (longestDistance a b ∷ []))
+longestTold a b = answer (longestRefusal a b) (given [] (longestDistance (points a) (points b) ∷ []))

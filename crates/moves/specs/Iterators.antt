@@ -7,7 +7,7 @@ use Rattle.numbers.specs.Told.{Told, given, answer}
 use Rattle.legs.specs.declared.Point.{Point}
 use Rattle.legs.specs.declared.Feet.{Feet}
 use Rattle.moves.specs.Moving.{moveTowards, moveFeetTowards}
-use Rattle.moves.specs.Answers.{ofMovingPoint, ofMovingFeet, toldNextPoint, toldNextFeet}
+use Rattle.moves.specs.Answers.{ofMovingPoint, ofMovingFeet, liftsOfMoving, toldNextPoint, toldNextFeet}
 use Rattle.moves.specs.Refusals.{moveRefusal, moveFeetRefusal}
 use Rattle.moves.specs.declared.MoveStep.{MoveStep}
 use Rattle.moves.specs.declared.MoveStep.the-variants.{Moved, Arrived}
@@ -47,7 +47,7 @@ unfoldable pub pointIterTold : Point → Point → Float → Told
 pointIterTold l t m = answer (moveRefusal l t m) (given [] (ofMovingPoint (movingPoint l t m)))
 
 unfoldable pub feetIterTold : Feet → Feet → Float → Told
-feetIterTold l t m = answer (moveFeetRefusal l t m) (given [] (ofMovingFeet (movingFeet l t m)))
+feetIterTold l t m = answer (moveFeetRefusal l t m) (given (liftsOfMoving (movingFeet l t m)) (ofMovingFeet (movingFeet l t m)))
 
 unfoldable pub nextPointTold : MovingPoint → Told
 nextPointTold s = answer (moveRefusal (s .last) (s .target) (s .«max_move»)) (toldNextPoint (nextPoint s))

@@ -1,13 +1,17 @@
--- Document 01, "Moving towards", with request K6: one step, of a point or a vector, and of six feet.
+-- Document 01, "Moving towards", with request K6: one step, of a point or a vector, and of six feet, which keep their marks (request K12).
 use mathlib.Core.Bool.{Bool, true, false}
 use lib.Ieee.{Float, binary32, add, sub, mul, div, le}
 use Rattle.numbers.specs.Told.{choose}
-use Rattle.legs.specs.Legs.{Leg, leftFront, rightFront, leftMiddle, rightMiddle, leftRear, rightRear, foot, feet, some}
+use Rattle.legs.specs.Legs.{Leg, leftFront, rightFront, leftMiddle, rightMiddle, leftRear, rightRear}
+use Rattle.legs.specs.Legs.{some, point, sixPoints, points, lifted, marked}
 use Rattle.legs.specs.declared.Point.{Point}
+use Rattle.legs.specs.declared.Points.{Points}
 use Rattle.legs.specs.declared.Feet.{Feet}
 use Rattle.moves.specs.Distance.{same, distance}
 use Rattle.moves.specs.declared.MoveStep.{MoveStep}
 use Rattle.moves.specs.declared.MoveStep.the-variants.{Moved, Arrived}
+use Rattle.moves.specs.declared.core.PointsStep.{PointsStep}
+use Rattle.moves.specs.declared.core.PointsStep.the-variants.{Moved as PointsMoved, Arrived as PointsArrived}
 use Rattle.moves.specs.declared.FeetStep.{FeetStep}
 use Rattle.moves.specs.declared.FeetStep.the-variants.{Moved as FeetMoved, Arrived as FeetArrived}
 
@@ -48,21 +52,34 @@ byLeg lf rf lm rm lr rr leftRear = lr
 byLeg lf rf lm rm lr rr rightRear = rr
 
 -- six steps share one flag: whether one of them moved
-abbrev pub together : (Leg → MoveStep) → FeetStep
+abbrev pub together : (Leg → MoveStep) → PointsStep
 together g =
     choose (some (λ l. hasMoved (g l)))
-    (FeetMoved (feet (λ l. pointOf (g l))))
-    (FeetArrived (feet (λ l. pointOf (g l))))
+    (PointsMoved (sixPoints (λ l. pointOf (g l))))
+    (PointsArrived (sixPoints (λ l. pointOf (g l))))
 
--- "Six feet move as six single ones"
+-- "Six feet move as six single ones": their points
+unfoldable pub movePointsTowards : Points → Points → Float → PointsStep
+movePointsTowards a t m = together (λ l. moveTowards (point a l) (point t l) m)
+
+-- the points of a step, and the shared flag
+unfoldable pub pointsOf : PointsStep → Points
+pointsOf (PointsMoved p) = p
+pointsOf (PointsArrived p) = p
+
+unfoldable pub oneMoved : PointsStep → Bool
+oneMoved (PointsMoved p) = true
+oneMoved (PointsArrived p) = false
+
+-- Request K12: a foot "moved by move-towards keeps the mark it had", which is last's; a target's marks mean nothing
+abbrev pub keeping : (Leg → Bool) → PointsStep → FeetStep
+keeping had (PointsMoved p) = FeetMoved (marked had p)
+keeping had (PointsArrived p) = FeetArrived (marked had p)
+
 unfoldable pub moveFeetTowards : Feet → Feet → Float → FeetStep
-moveFeetTowards a t m = together (λ l. moveTowards (foot a l) (foot t l) m)
+moveFeetTowards last t m = keeping (lifted last) (movePointsTowards (points last) (points t) m)
 
--- the feet of a step, and the shared flag
+-- the feet of a step
 unfoldable pub feetOf : FeetStep → Feet
 feetOf (FeetMoved f) = f
 feetOf (FeetArrived f) = f
-
-unfoldable pub oneMoved : FeetStep → Bool
-oneMoved (FeetMoved f) = true
-oneMoved (FeetArrived f) = false

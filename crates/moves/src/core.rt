@@ -7,6 +7,7 @@ use crate::NextFeet;
 use crate::NextPoint;
 use legs::Feet;
 use legs::Point;
+use legs::Points;
 ghost use mathlib.Core.Path.{_≡_};
 ghost use mathlib.Core.List.{[], _∷_};
 ghost use Rattle.numbers.specs.Told.{choose};
@@ -14,8 +15,15 @@ ghost use Rattle.roots.specs.Root.{squareRoot};
 ghost use Rattle.moves.specs.Distance.{same, squareSum, horizontalSum, distance};
 ghost use Rattle.moves.specs.Distance.{largest, longestDistance, maxHorizontalDistance};
 ghost use Rattle.moves.specs.Moving.{along, nearer, moveTowards};
-ghost use Rattle.moves.specs.Moving.{pointOf, hasMoved, byLeg, together, moveFeetTowards};
+ghost use Rattle.legs.specs.Legs.{lifted};
+ghost use Rattle.moves.specs.Moving.{pointOf, hasMoved, byLeg, together, movePointsTowards, keeping, moveFeetTowards};
 ghost use Rattle.moves.specs.Iterators.{nextPoint, nextFeet};
+
+// What one step makes of six points: one moved at least, or all at their targets already.
+pub enum PointsStep {
+    Moved(Points),
+    Arrived(Points),
+}
 
 // Whether two points are equal in every component, as numbers.
 pub fn is_same(a: Point, b: Point) -> bool
@@ -103,14 +111,14 @@ pub fn has_moved(s: MoveStep) -> bool
     }
 }
 
-// The six feet of a step, with the flag that they share.
-fn shared(moved: bool, feet: Feet) -> FeetStep
-    ensures { λ r. ⌜ r ≡ choose moved (FeetStep.Moved feet) (FeetStep.Arrived feet) ⌝ }
+// The six points of a step, with the flag that they share.
+fn shared(moved: bool, points: Points) -> PointsStep
+    ensures { λ r. ⌜ r ≡ choose moved (PointsStep.Moved points) (PointsStep.Arrived points) ⌝ }
 {
     if moved {
-        FeetStep::Moved(feet)
+        PointsStep::Moved(points)
     } else {
-        FeetStep::Arrived(feet)
+        PointsStep::Arrived(points)
     }
 }
 
@@ -122,7 +130,7 @@ pub fn together(
     rm: MoveStep,
     lr: MoveStep,
     rr: MoveStep,
-) -> FeetStep
+) -> PointsStep
     ensures { λ r. ⌜ r ≡ together (byLeg lf rf lm rm lr rr) ⌝ }
 {
     let moved = has_moved(lf)
@@ -131,7 +139,7 @@ pub fn together(
         | has_moved(rm)
         | has_moved(lr)
         | has_moved(rr);
-    let feet = Feet {
+    let points = Points {
         left_front: point_of(lf),
         left_middle: point_of(lm),
         left_rear: point_of(lr),
@@ -139,12 +147,12 @@ pub fn together(
         right_middle: point_of(rm),
         right_rear: point_of(rr),
     };
-    shared(moved, feet)
+    shared(moved, points)
 }
 
-// Six feet move as six single ones.
-pub fn move_feet_towards(last: Feet, target: Feet, max_move: f32) -> FeetStep
-    ensures { λ r. ⌜ r ≡ moveFeetTowards last target «max_move» ⌝ }
+// Six points move as six single ones.
+pub fn move_points_towards(last: Points, target: Points, max_move: f32) -> PointsStep
+    ensures { λ r. ⌜ r ≡ movePointsTowards last target «max_move» ⌝ }
 {
     together(
         move_towards(last.left_front, target.left_front, max_move),
@@ -154,6 +162,25 @@ pub fn move_feet_towards(last: Feet, target: Feet, max_move: f32) -> FeetStep
         move_towards(last.left_rear, target.left_rear, max_move),
         move_towards(last.right_rear, target.right_rear, max_move),
     )
+}
+
+// The step of six points as one of feet, with the marks that these feet have.
+fn keeping(feet: Feet, step: PointsStep) -> FeetStep
+    ensures { λ r. ⌜ r ≡ keeping (lifted feet) step ⌝ }
+{
+    match step {
+        PointsStep::Moved(points) => FeetStep::Moved(legs::core::marked_as(feet, points)),
+        PointsStep::Arrived(points) => FeetStep::Arrived(legs::core::marked_as(feet, points)),
+    }
+}
+
+// Six feet move as their points do, and keep their marks.
+pub fn move_feet_towards(last: Feet, target: Feet, max_move: f32) -> FeetStep
+    ensures { λ r. ⌜ r ≡ moveFeetTowards last target «max_move» ⌝ }
+{
+    let from = legs::core::points_of(last);
+    let to = legs::core::points_of(target);
+    keeping(last, move_points_towards(from, to, max_move))
 }
 
 // One step more of a point on its way; the state after remembers where it is.
@@ -175,14 +202,17 @@ pub fn next_point(s: MovingPoint) -> NextPoint
 pub fn next_feet(s: MovingFeet) -> NextFeet
     ensures { λ r. ⌜ r ≡ nextFeet s ⌝ }
 {
-    let step = move_feet_towards(s.last, s.target, s.max_move);
+    let from = legs::core::points_of(s.last);
+    let to = legs::core::points_of(s.target);
+    let step = move_points_towards(from, to, s.max_move);
     match step {
-        FeetStep::Moved(f) => {
+        PointsStep::Moved(points) => {
+            let feet = legs::core::marked_as(s.last, points);
             let mut after = s;
-            after.last = f;
-            NextFeet::Moved(f, after)
+            after.last = feet;
+            NextFeet::Moved(feet, after)
         }
-        FeetStep::Arrived(_) => NextFeet::Done,
+        PointsStep::Arrived(_) => NextFeet::Done,
     }
 }
 
@@ -198,7 +228,7 @@ fn largest_root(lf: f32, rf: f32, lm: f32, rm: f32, lr: f32, rr: f32) -> f32
 }
 
 // The largest of the six distances in x, y and z.
-pub fn longest_distance(a: Feet, b: Feet) -> f32
+pub fn longest_distance(a: Points, b: Points) -> f32
     ensures { λ r. ⌜ r ≡ longestDistance a b ⌝ }
 {
     largest_root(
@@ -212,7 +242,7 @@ pub fn longest_distance(a: Feet, b: Feet) -> f32
 }
 
 // The largest of the six distances in x and y only.
-pub fn max_horizontal_distance(a: Feet, b: Feet) -> f32
+pub fn max_horizontal_distance(a: Points, b: Points) -> f32
     ensures { λ r. ⌜ r ≡ maxHorizontalDistance a b ⌝ }
 {
     largest_root(

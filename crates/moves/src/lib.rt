@@ -127,7 +127,7 @@ pub fn move_towards(last: Point, target: Point, max_move: f32) -> Towards
     }
 }
 
-// Six feet take one step each.
+// Six feet take one step each, and keep the marks that they had last.
 pub fn move_feet_towards(last: Feet, target: Feet, max_move: f32) -> FeetTowards
     ensures { λ r. ⌜ toldFeet r ≡ moveFeetTold last target «max_move» ⌝ }
 {
@@ -217,7 +217,9 @@ pub fn longest_distance(a: Feet, b: Feet) -> Answer
 {
     let n = longest_refused(a, b);
     if n == 0 {
-        Answer::Value(core::longest_distance(a, b))
+        let from = legs::core::points_of(a);
+        let to = legs::core::points_of(b);
+        Answer::Value(core::longest_distance(from, to))
     } else {
         Answer::Refused(n)
     }

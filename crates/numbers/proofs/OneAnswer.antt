@@ -1,10 +1,12 @@
 -- No second answer fits: where a contract says what an answer tells, and telling loses nothing, the answer is settled.
 use mathlib.Core.Path.{_≡_, refl, sym, ap, _∙_}
+use mathlib.Core.Bool.{Bool, true, false}
 use mathlib.Core.List.{List, [], _∷_}
 use Prim.Native.Nat.{ℕ}
 use native.Mathlib.Omega.{arith}
 use lib.Ieee.{Float}
-use Rattle.numbers.specs.Told.{Told}
+use lib.Dec.{eqb}
+use Rattle.numbers.specs.Told.{Told, refused, choose, mark, answer}
 use Rattle.numbers.specs.Answers.{told, toldPattern}
 use Rattle.numbers.specs.declared.Answer.{Answer}
 use Rattle.numbers.specs.declared.Answer.the-variants.{Value, Refused}
@@ -15,6 +17,26 @@ use Rattle.numbers.specs.declared.patterns.Pattern.the-variants.{Bits, N
 pub one-answer : {A B : Type 0} (tell : A → B) (keeps : (a b : A) → tell a ≡ tell b → a ≡ b) {said : B} (a b : A)
     → tell a ≡ said → tell b ≡ said → a ≡ b
 one-answer tell keeps a b p q = keeps a b (p ∙ sym q)
+
+-- telling that can be undone loses nothing
+pub undone : {A : Type 0} (tell : A → Told) (back : Told → A) → ((a : A) → back (tell a) ≡ a) → (a b : A) → tell a ≡ tell b → a ≡ b
+undone tell back is a b e = sym (is a) ∙ ap back e ∙ is b
+
+-- a flag is settled by its mark
+pub flag-of-mark : (b : Bool) → eqb (mark b) 1 ≡ b
+flag-of-mark true = refl
+flag-of-mark false = refl
+
+-- what two answers tell is the same but for marks: the same refusal, or the same floats
+abbrev pub SameButMarks : Told → Told → Type 0
+SameButMarks s t = (s .number ≡ t .number) × (s .values ≡ t .values)
+
+pub same-answers : (n : ℕ) (s t : Told) → SameButMarks s t → SameButMarks (answer n s) (answer n t)
+same-answers n s t h = by-test (eqb n 0)
+  where
+    by-test : (b : Bool) → SameButMarks (choose b s (refused n)) (choose b t (refused n))
+    by-test true = h
+    by-test false = (refl, refl)
 
 -- `told` loses nothing of an answer on numbers
 pub told-loses-nothing : (a b : Answer) → told a ≡ told b → a ≡ b

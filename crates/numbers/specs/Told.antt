@@ -6,8 +6,8 @@ use lib.Dec.{eqb}
 use lib.Ieee.{Float}
 
 -- `number`: the refusal's number, 0 where nothing is refused.
--- `marks`: what the case says besides floats: moved (1) or not (0), a step (1) or none (0), a count, a length, a refused leg; empty where
--- it says nothing.
+-- `marks`: what the case says besides floats: moved (1) or not (0), a step (1) or none (0), a count, a length, a refused leg, and of six
+-- feet which are lifted; empty where it says nothing.
 -- `values`: the floats, in row order; a refusal has none.
 pub record Told : Type 0 where
   pub number : ℕ
@@ -24,6 +24,10 @@ given ks xs = record { number = 0; marks = ks; values = xs }
 abbrev pub choose : {A : Type 0} → Bool → A → A → A
 choose true x y = x
 choose false x y = y
+
+-- a flag as a mark: 1 where it stands, else 0
+abbrev pub mark : Bool → ℕ
+mark b = choose b 1 0
 
 -- refused where the number is not 0, else what is given
 abbrev pub answer : ℕ → Told → Told

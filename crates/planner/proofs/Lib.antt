@@ -1,3 +1,4 @@
 mod Bits
 mod Together
 pub mod Within
+pub mod Marks

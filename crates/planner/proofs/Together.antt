@@ -1,7 +1,7 @@
 -- Six feet in two groups of three are document 01's plan, leg by leg, for either tripod.
 use mathlib.Core.Path.{_≡_, refl}
 use Rattle.numbers.specs.Told.{choose}
-use Rattle.legs.specs.declared.Feet.{Feet}
+use Rattle.legs.specs.declared.Points.{Points}
 use Rattle.commands.specs.Tripods.{isLRL}
 use Rattle.commands.specs.declared.Tripod.{Tripod}
 use Rattle.commands.specs.declared.Tripod.the-variants.{LRL, RLR}
@@ -11,7 +11,7 @@ use Rattle.planner.specs.Plan.{rotation, correctingRotation, linearMotio
 use Rattle.planner.specs.How.{appliedFeet, readyFeet}
 
 pub together :
-    (start relaxed : Feet) (t : Tripod) (c : MoveCommand)
+    (start relaxed : Points) (t : Tripod) (c : MoveCommand)
     → appliedFeet
     (turn (choose (isLRL t) (rotation c) (correctingRotation start relaxed t c)))
     (turn (choose (isLRL t) (correctingRotation start relaxed t c) (rotation c)))

@@ -16,8 +16,9 @@ use Rattle.numbers.specs.Limits.{over}
 use Rattle.numbers.specs.Limits as rows
 use Rattle.units.specs.Units.{unity, hi, lo}
 use Rattle.legs.specs.Legs.{Leg, leftFront, rightFront, leftMiddle, rightMiddle, leftRear, rightRear}
-use Rattle.legs.specs.Legs.{foot, permittedPoint, finiteFeet, permittedFeet}
+use Rattle.legs.specs.Legs.{point, points, foot, permittedPoint, finiteFeet, permittedFeet}
 use Rattle.legs.specs.declared.Point.{Point}
+use Rattle.legs.specs.declared.Points.{Points}
 use Rattle.legs.specs.declared.Feet.{Feet}
 use Rattle.bounds.specs.Between.{Between, HeldFeet, PointBounds}
 use Rattle.bounds.proofs.Between.{result-between, sum-between, difference-between, product-between, share-between, flip-between}
@@ -43,7 +44,7 @@ pub record TurnArguments (a b : Point) : Type 0 where
   pub second : T (permits rows.atan2Argument (inner a b))
 
 -- all that is handed over in one plan
-pub record PlanArguments (start relaxed : Feet) (lifted : Tripod) (c : MoveCommand) : Type 0 where
+pub record PlanArguments (start relaxed : Points) (lifted : Tripod) (c : MoveCommand) : Type 0 where
   pub lifted-turn : T (permits rows.sineArgument (rotation c))
   pub standing-turn : T (permits rows.sineArgument (correctingRotation start relaxed lifted c))
   pub first : TurnArguments (between (centerPoint (summed lifted start)) ((inRow lifted start) .first)) ((inRow lifted relaxed) .first)
@@ -110,13 +111,13 @@ turn-arguments a b p q =
 feet-bounds : (f : Feet) → HeldFeet f → T (permittedFeet rows.footLimit f) → (l : Leg) → PointBounds 4 (foot f l)
 feet-bounds f H h l = point-bounds (foot f l) (H l) (each-of-every (λ k. permittedPoint rows.footLimit (foot f k)) h l)
 
-summed-bounds : (f : Feet) → ((l : Leg) → PointBounds 4 (foot f l)) → (lifted : Tripod) → TrioBounds (summed lifted f)
-summed-bounds f b LRL = record { first = b leftMiddle; second = b rightFront; third = b rightRear }
-summed-bounds f b RLR = record { first = b leftFront; second = b leftRear; third = b rightMiddle }
+summed-bounds : (p : Points) → ((l : Leg) → PointBounds 4 (point p l)) → (lifted : Tripod) → TrioBounds (summed lifted p)
+summed-bounds p b LRL = record { first = b leftMiddle; second = b rightFront; third = b rightRear }
+summed-bounds p b RLR = record { first = b leftFront; second = b leftRear; third = b rightMiddle }
 
-row-bounds : (f : Feet) → ((l : Leg) → PointBounds 4 (foot f l)) → (lifted : Tripod) → TrioBounds (inRow lifted f)
-row-bounds f b LRL = record { first = b rightFront; second = b leftMiddle; third = b rightRear }
-row-bounds f b RLR = record { first = b leftFront; second = b rightMiddle; third = b leftRear }
+row-bounds : (p : Points) → ((l : Leg) → PointBounds 4 (point p l)) → (lifted : Tripod) → TrioBounds (inRow lifted p)
+row-bounds p b LRL = record { first = b rightFront; second = b leftMiddle; third = b rightRear }
+row-bounds p b RLR = record { first = b leftFront; second = b rightMiddle; third = b leftRear }
 
 rotation-permitted : (c : MoveCommand) → T (permittedCommand c) → T (permits rows.rotation (c .rotation))
 unfolding permittedCommand
@@ -149,7 +150,7 @@ pub plan-within :
     → HeldFeet relaxed
     → T (fits binary32 (c .rotation))
     → planRefusal start relaxed c ≡ 0
-    → PlanArguments start relaxed lifted c
+    → PlanArguments (points start) (points relaxed) lifted c
 unfolding planRefusal
 plan-within start relaxed lifted c S R C e =
     let p = permittedFeet rows.footLimit start in
@@ -165,12 +166,12 @@ plan-within start relaxed lifted c S R C e =
     let s = feet-bounds start S (and-l p q feet) in
     let r = feet-bounds relaxed R (and-r p q feet) in
     let turn = at-rotation (c .rotation) C (rotation-permitted c (and-r (p && q) (permittedCommand c) h)) in
-    let from = inRow lifted start in
-    let to = inRow lifted relaxed in
-    let m = centerPoint (summed lifted start) in
-    let M = centre-level (summed lifted start) (summed-bounds start s lifted) in
-    let i = row-bounds start s lifted in
-    let j = row-bounds relaxed r lifted in
+    let from = inRow lifted (points start) in
+    let to = inRow lifted (points relaxed) in
+    let m = centerPoint (summed lifted (points start)) in
+    let M = centre-level (summed lifted (points start)) (summed-bounds (points start) s lifted) in
+    let i = row-bounds (points start) s lifted in
+    let j = row-bounds (points relaxed) r lifted in
     let average = average-between from m to in
     let undone = share-between 2 2 two (flip-between turn) two-value (lit< tt) (lit< tt) in
     record {

@@ -1,11 +1,13 @@
--- What the planner's entry tells. 1: a float is NaN or infinite; 2: one is outside the table; 3: the command's step time is.
+-- What the planner's entry tells: the planned points, with start's marks. Request K12: a foot "planned from its start" keeps "the mark it
+-- had"; so does one planned from its relaxed place, and relaxed's marks mean nothing.
+-- 1: a float is NaN or infinite; 2: one is outside the table; 3: the command's step time is.
 use Prim.Native.Nat.{ℕ}
 use mathlib.Core.Bool.{_&&_}
 use mathlib.Core.List.{[], _∷_}
 use Rattle.numbers.specs.Told.{Told, answer}
 use Rattle.numbers.specs.Door.{unless, firstOf}
 use Rattle.numbers.specs.Limits.{footLimit}
-use Rattle.legs.specs.Legs.{finiteFeet, permittedFeet}
+use Rattle.legs.specs.Legs.{points, lifted, marked, finiteFeet, permittedFeet}
 use Rattle.legs.specs.Answers.{givenFeet}
 use Rattle.legs.specs.declared.Feet.{Feet}
 use Rattle.commands.specs.Times.{periodPermitted}
@@ -22,5 +24,8 @@ planRefusal start relaxed c =
     ∷ unless (periodPermitted (c .«step_time»)) 3
     ∷ [])
 
+unfoldable pub plannedFeet : Feet → Feet → Tripod → MoveCommand → Feet
+plannedFeet start relaxed tripod c = marked (lifted start) (planned (points start) (points relaxed) tripod c)
+
 unfoldable pub planTold : Feet → Feet → Tripod → MoveCommand → Told
-planTold start relaxed lifted c = answer (planRefusal start relaxed c) (givenFeet (planned start relaxed lifted c))
+planTold start relaxed tripod c = answer (planRefusal start relaxed c) (givenFeet (plannedFeet start relaxed tripod c))

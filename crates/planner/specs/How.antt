@@ -2,9 +2,9 @@
 use mathlib.Core.Bool.{Bool, not}
 use mathlib.Core.List.{List}
 use lib.Ieee.{Float}
-use Rattle.legs.specs.Legs.{Leg, leftFront, rightFront, leftMiddle, rightMiddle, leftRear, rightRear, foot, feet}
+use Rattle.legs.specs.Legs.{Leg, leftFront, rightFront, leftMiddle, rightMiddle, leftRear, rightRear, point, sixPoints}
 use Rattle.legs.specs.declared.Point.{Point}
-use Rattle.legs.specs.declared.Feet.{Feet}
+use Rattle.legs.specs.declared.Points.{Points}
 use Rattle.planner.specs.Turns.{applied}
 use Rattle.planner.specs.Plan.{readyFoot}
 
@@ -17,9 +17,9 @@ byLeg rightFront a b = b
 byLeg leftMiddle a b = b
 byLeg rightRear a b = b
 
-unfoldable pub appliedFeet : List (List Float) → List (List Float) → Feet → Feet
-appliedFeet a b f = feet (λ l. applied (byLeg l a b) (foot f l))
+unfoldable pub appliedFeet : List (List Float) → List (List Float) → Points → Points
+appliedFeet a b f = sixPoints (λ l. applied (byLeg l a b) (point f l))
 
-unfoldable pub readyFeet : Bool → Feet → Feet → Point → Point → Feet
+unfoldable pub readyFeet : Bool → Points → Points → Point → Point → Points
 readyFeet lrl start relaxed motion shift =
-    feet (λ l. readyFoot (byLeg l lrl (not lrl)) (foot start l) (foot relaxed l) motion shift)
+    sixPoints (λ l. readyFoot (byLeg l lrl (not lrl)) (point start l) (point relaxed l) motion shift)

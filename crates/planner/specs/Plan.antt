@@ -5,10 +5,10 @@ use mathlib.Core.Bool.{Bool}
 use lib.Ieee.{Float, binary32, add, sub, div, neg}
 use Rattle.numbers.specs.Told.{choose}
 use Rattle.numbers.specs.Limits.{over}
-use Rattle.legs.specs.Legs.{Leg, leftFront, rightFront, leftMiddle, rightMiddle, leftRear, rightRear, foot, feet}
+use Rattle.legs.specs.Legs.{Leg, leftFront, rightFront, leftMiddle, rightMiddle, leftRear, rightRear, point, sixPoints}
 use Rattle.legs.specs.Vectors.{plus, minus}
 use Rattle.legs.specs.declared.Point.{Point}
-use Rattle.legs.specs.declared.Feet.{Feet}
+use Rattle.legs.specs.declared.Points.{Points}
 use Rattle.commands.specs.Tripods.{has}
 use Rattle.commands.specs.declared.Tripod.{Tripod}
 use Rattle.commands.specs.declared.Tripod.the-variants.{LRL, RLR}
@@ -19,16 +19,16 @@ use Rattle.planner.specs.declared.core.Trio.{Trio}
 abbrev pub trioOf : Point → Point → Point → Trio
 trioOf p q r = record { first = p; second = q; third = r }
 
-abbrev pub trio : Feet → Leg → Leg → Leg → Trio
-trio f a b c = trioOf (foot f a) (foot f b) (foot f c)
+abbrev pub trio : Points → Leg → Leg → Leg → Trio
+trio f a b c = trioOf (point f a) (point f b) (point f c)
 
 -- the three that stand, in the order in which their points are summed
-abbrev pub summed : Tripod → Feet → Trio
+abbrev pub summed : Tripod → Points → Trio
 summed LRL f = trio f leftMiddle rightFront rightRear
 summed RLR f = trio f leftFront leftRear rightMiddle
 
 -- and in the order of a row, in which their angles are
-abbrev pub inRow : Tripod → Feet → Trio
+abbrev pub inRow : Tripod → Points → Trio
 inRow LRL f = trio f rightFront leftMiddle rightRear
 inRow RLR f = trio f leftFront rightMiddle leftRear
 
@@ -72,7 +72,7 @@ readyFoot lifted start relaxed linearMotion translation =
 abbrev pub rotation : MoveCommand → Float
 rotation c = div binary32 (c .rotation) two
 
-abbrev pub correctingRotation : Feet → Feet → Tripod → MoveCommand → Float
+abbrev pub correctingRotation : Points → Points → Tripod → MoveCommand → Float
 correctingRotation start relaxed lifted c =
     add binary32
     (averageRotation (inRow lifted start) (centerPoint (summed lifted start)) (inRow lifted relaxed))
@@ -81,12 +81,12 @@ correctingRotation start relaxed lifted c =
 abbrev pub linearMotion : MoveCommand → Point
 linearMotion c = level (c .«direction_x») (c .«direction_y»)
 
-abbrev pub translation : Feet → Feet → Tripod → Point
+abbrev pub translation : Points → Points → Tripod → Point
 translation start relaxed lifted = between (centerPoint (summed lifted start)) (centerPoint (summed lifted relaxed))
 
-unfoldable pub planned : Feet → Feet → Tripod → MoveCommand → Feet
+unfoldable pub planned : Points → Points → Tripod → MoveCommand → Points
 planned start relaxed lifted c =
-    feet (λ l.
+    sixPoints (λ l.
     applied
     (turn (choose (has lifted l) (rotation c) (correctingRotation start relaxed lifted c)))
-    (readyFoot (has lifted l) (foot start l) (foot relaxed l) (linearMotion c) (translation start relaxed lifted)))
+    (readyFoot (has lifted l) (point start l) (point relaxed l) (linearMotion c) (translation start relaxed lifted)))

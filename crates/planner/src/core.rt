@@ -2,11 +2,10 @@
 use crate::turns;
 use commands::MoveCommand;
 use commands::Tripod;
-use legs::Feet;
 use legs::Point;
+use legs::Points;
 ghost use mathlib.Core.Path.{_≡_};
 ghost use Rattle.numbers.specs.Told.{choose};
-ghost use Rattle.commands.specs.Tripods.{isLRL};
 ghost use Rattle.legs.specs.Vectors.{plus, minus};
 ghost use Rattle.planner.specs.Plan.{trioOf, summed, inRow, centerPoint, between, averageRotation, readyFoot, planned};
 ghost use Rattle.planner.specs.How.{readyFeet};
@@ -30,7 +29,7 @@ fn three(first: Point, second: Point, third: Point) -> Trio
 }
 
 // The standing three in the order in which the source sums their points.
-fn summed(lifted: Tripod, feet: Feet) -> Trio
+fn summed(lifted: Tripod, feet: Points) -> Trio
     ensures { λ r. ⌜ r ≡ summed lifted feet ⌝ }
 {
     match lifted {
@@ -40,7 +39,7 @@ fn summed(lifted: Tripod, feet: Feet) -> Trio
 }
 
 // The standing three in the order of a row, in which the source sums their angles.
-fn in_row(lifted: Tripod, feet: Feet) -> Trio
+fn in_row(lifted: Tripod, feet: Points) -> Trio
     ensures { λ r. ⌜ r ≡ inRow lifted feet ⌝ }
 {
     match lifted {
@@ -115,26 +114,16 @@ fn ready_foot(lifted: bool, start: Point, relaxed: Point, motion: Point, shift: 
 }
 
 // Six feet before their turns.
-fn ready_feet(lrl: bool, start: Feet, relaxed: Feet, motion: Point, shift: Point) -> Feet
+fn ready_feet(lrl: bool, start: Points, relaxed: Points, motion: Point, shift: Point) -> Points
     ensures { λ r. ⌜ r ≡ readyFeet lrl start relaxed motion shift ⌝ }
 {
-    Feet {
+    Points {
         left_front: ready_foot(lrl, start.left_front, relaxed.left_front, motion, shift),
         left_middle: ready_foot(!lrl, start.left_middle, relaxed.left_middle, motion, shift),
         left_rear: ready_foot(lrl, start.left_rear, relaxed.left_rear, motion, shift),
         right_front: ready_foot(!lrl, start.right_front, relaxed.right_front, motion, shift),
         right_middle: ready_foot(lrl, start.right_middle, relaxed.right_middle, motion, shift),
         right_rear: ready_foot(!lrl, start.right_rear, relaxed.right_rear, motion, shift),
-    }
-}
-
-// Whether left front, right middle and left rear are the lifted ones.
-fn is_lrl(tripod: Tripod) -> bool
-    ensures { λ r. ⌜ r ≡ isLRL tripod ⌝ }
-{
-    match tripod {
-        Tripod::LRL => true,
-        Tripod::RLR => false,
     }
 }
 
@@ -147,11 +136,11 @@ fn chosen(flag: bool, x: f32, y: f32) -> f32
 
 // The next target of all six feet.
 pub fn step_with_relaxed_transformation(
-    start: Feet,
-    relaxed: Feet,
+    start: Points,
+    relaxed: Points,
     lifted_tripod: Tripod,
     command: MoveCommand,
-) -> Feet
+) -> Points
     ensures { λ r. ⌜ r ≡ planned start relaxed «lifted_tripod» command ⌝ }
 {
     let linear_motion = Point {
@@ -169,7 +158,7 @@ pub fn step_with_relaxed_transformation(
     );
     let rotation = command.rotation / 2.0;
     let correcting_rotation = average + -command.rotation / 2.0;
-    let lrl = is_lrl(lifted_tripod);
+    let lrl = commands::core::is_lrl(lifted_tripod);
     let first = turns::turn(chosen(lrl, rotation, correcting_rotation));
     let second = turns::turn(chosen(lrl, correcting_rotation, rotation));
     turns::applied_feet(

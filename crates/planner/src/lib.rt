@@ -31,7 +31,7 @@ pub fn plan_refused(start: Feet, relaxed: Feet, command: MoveCommand) -> u32
     }
 }
 
-// The next target of all six feet, from where they are, where they stand relaxed, and the command.
+// The next target of all six feet, from where they are, where they stand relaxed, and the command. They keep the marks that they have.
 pub fn step_with_relaxed_transformation(
     start: Feet,
     relaxed: Feet,
@@ -42,12 +42,10 @@ pub fn step_with_relaxed_transformation(
 {
     let n = plan_refused(start, relaxed, command);
     if n == 0 {
-        Planned::Feet(core::step_with_relaxed_transformation(
-            start,
-            relaxed,
-            lifted_tripod,
-            command,
-        ))
+        let from = legs::core::points_of(start);
+        let rest = legs::core::points_of(relaxed);
+        let to = core::step_with_relaxed_transformation(from, rest, lifted_tripod, command);
+        Planned::Feet(legs::core::marked_as(start, to))
     } else {
         Planned::Refused(n)
     }

@@ -1,6 +1,6 @@
 // Turns about z: a rotation matrix of three rows of three numbers, and the angle between two vectors.
-use legs::Feet;
 use legs::Point;
+use legs::Points;
 ghost use mathlib.Core.Path.{_≡_};
 ghost use Rattle.planner.specs.Turns.{turn, dot, applied, isZero, rotationBetween};
 ghost use Rattle.planner.specs.How.{appliedFeet};
@@ -34,10 +34,10 @@ pub fn applied(m: [[f32; 3]; 3], p: Point) -> Point
 }
 
 // Six feet turned: left front, right middle and left rear by the first, the other three by the second.
-pub fn applied_feet(lrl: [[f32; 3]; 3], rlr: [[f32; 3]; 3], feet: Feet) -> Feet
+pub fn applied_feet(lrl: [[f32; 3]; 3], rlr: [[f32; 3]; 3], feet: Points) -> Points
     ensures { λ r. ⌜ r ≡ appliedFeet lrl rlr feet ⌝ }
 {
-    Feet {
+    Points {
         left_front: applied(lrl, feet.left_front),
         left_middle: applied(rlr, feet.left_middle),
         left_rear: applied(lrl, feet.left_rear),

@@ -1,4 +1,4 @@
-// The operations on foot moves. Where a field begins among the words: a point has three, a row eighteen.
+// The operations on foot moves. Where a field begins among the words: a point has three, a row nineteen, the last its marks.
 use fields::Words;
 use fields::answers;
 use fields::asked;
@@ -17,8 +17,8 @@ pub fn point_move(w: Words) -> Words {
 pub fn feet_move(w: Words) -> Words {
     answers::feet_towards(hopper::foot_moves::move_feet_towards(
         asked::feet(w, 0),
-        asked::feet(w, 18),
-        asked::float(w, 0, 36),
+        asked::feet(w, 19),
+        asked::float(w, 0, 38),
     ))
 }
 
@@ -35,8 +35,8 @@ pub fn point_iter(w: Words) -> Words {
 pub fn feet_iter(w: Words) -> Words {
     answers::feet_iter(hopper::foot_moves::feet_to_move_towards_iter(
         asked::feet(w, 0),
-        asked::feet(w, 18),
-        asked::float(w, 0, 36),
+        asked::feet(w, 19),
+        asked::float(w, 0, 38),
     ))
 }
 
@@ -59,16 +59,18 @@ pub fn point_walk(w: Words) -> Words {
     )
 }
 
-// walk6: the same of six feet.
+// walk6: the same of six feet, which come to the target's points with the start's marks.
 pub fn feet_walk(w: Words) -> Words {
-    let target = asked::feet(w, 19);
+    let start = asked::feet(w, 1);
+    let target = asked::feet(w, 20);
+    let end = legs::core::marked_as(start, legs::core::points_of(target));
     answers::walked(
-        hopper::foot_moves::walk_feet(asked::float(w, 0, 0), asked::feet(w, 1), target),
-        said::feet(said::uncounted(), target),
+        hopper::foot_moves::walk_feet(asked::float(w, 0, 0), start, target),
+        said::feet(said::uncounted(), end),
     )
 }
 
 // ldist: two rows.
 pub fn longest(w: Words) -> Words {
-    answers::number(hopper::foot_moves::longest_distance(asked::feet(w, 0), asked::feet(w, 18)))
+    answers::number(hopper::foot_moves::longest_distance(asked::feet(w, 0), asked::feet(w, 19)))
 }

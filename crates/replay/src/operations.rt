@@ -35,13 +35,22 @@ fn answered(name: u64, w: Words) -> Words {
     }
 }
 
+// An answer as its line shows it: with marks or without.
+fn shown(name: u64, answer: Words) -> Words {
+    if names::shows_marks(name) {
+        answer
+    } else {
+        said::without_marks(answer)
+    }
+}
+
 // The answer to a line.
 pub fn answer(s: &[u8]) -> Words {
     let name = line::name(s);
     let l = line::read(s, names::shape(name));
     let words = l.words;
     if l.good {
-        answered(name, words)
+        shown(name, answered(names::operation(name), words))
     } else {
         said::unreadable()
     }

@@ -34,7 +34,7 @@ ones-are-bits m h =
     simp (one-step m 1, one-step m 2, one-step m 4, one-step m 8, one-step m 16, one-step m 32, none) in
     ap ones (sym (div-one m)) ∙ bits ∙ in-row-order (m / 1 % 2) (m / 2 % 2) (m / 4 % 2) (m / 8 % 2) (m / 16 % 2) (m / 32 % 2)
 
--- so a leg that the mask names takes one of the first points, as many as the mask has ones
+-- so a leg that the mask names takes one of the first feet, as many as the mask has ones
 up-to : (m : ℕ) (l : Leg) → place m l + bit m l ≤ count m (row (λ (l : Leg). l))
 up-to m leftFront = omega arith
 up-to m rightFront = omega arith

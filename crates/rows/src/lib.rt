@@ -1,9 +1,9 @@
-// What takes a lent row of foot points: the update of selected legs (source 003).
+// What takes a lent row of feet: the update of selected legs (source 003).
 // A refusal leaves all as it was. The feet come by value, so the caller keeps its own; the row is
 // lent as `&`, so nobody writes to it, and the promise says that it holds at the end what it held.
 use legs::Feet;
+use legs::Foot;
 use legs::Planned;
-use legs::Point;
 ghost use mathlib.Core.Path.{_≡_};
 ghost use Prim.Native.Nat.{_≤_};
 ghost use lib.ListN.{take};
@@ -12,9 +12,9 @@ ghost use Rattle.rows.specs.Rows.{updateTold, UpdateOf};
 
 mod seen;
 
-// The flagged legs take the lent points in row order, the others stay; every lent point is looked
-// at, also one past the sixth.
-pub fn updated_from_selected_legs(feet: Feet, values: &[Point], mask: u32) -> Planned
+// In row order each flagged leg takes the lent point and the lent mark, the others stay;
+// every lent point is looked at, also one past the sixth.
+pub fn updated_from_selected_legs(feet: Feet, values: &[Foot], mask: u32) -> Planned
     ensures { λ r. ⌜ UpdateOf feet (now (values .entry)) mask r (now (values .exit)) ⌝ }
 {
     let mut seen = seen::none();
@@ -26,17 +26,17 @@ pub fn updated_from_selected_legs(feet: Feet, values: &[Point], mask: u32) -> Pl
     seen::answered(feet, seen, values.len(), mask)
 }
 
-// The first n of 64 points are lent.
-fn lent(feet: Feet, values: [Point; 64], n: usize, mask: u32) -> Planned
+// The first n of 64 feet are lent.
+fn lent(feet: Feet, values: [Foot; 64], n: usize, mask: u32) -> Planned
     requires { ⌜ n ≤ 64 ⌝ }
     ensures { λ r. ⌜ told r ≡ updateTold feet (take n values) mask ⌝ }
 {
     updated_from_selected_legs(feet, &values[..n], mask)
 }
 
-// The same of the first n of 64 points by value, for a caller that has no row to lend; all 64 where
+// The same of the first n of 64 feet by value, for a caller that has no row to lend; all 64 where
 // n is more.
-pub fn updated_from_first(feet: Feet, values: [Point; 64], n: usize, mask: u32) -> Planned
+pub fn updated_from_first(feet: Feet, values: [Foot; 64], n: usize, mask: u32) -> Planned
     ensures { λ r. ⌜ told r ≡ updateTold feet (take n values) mask ⌝ }
 {
     if n < 64 {

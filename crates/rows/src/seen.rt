@@ -1,5 +1,6 @@
-// What is remembered of a lent row while it is read, point by point.
+// What is remembered of a lent row while it is read, foot by foot.
 use legs::Feet;
+use legs::Foot;
 use legs::Planned;
 use legs::Point;
 use numbers::door;
@@ -8,14 +9,14 @@ ghost use mathlib.Core.List.{[]};
 ghost use Rattle.legs.specs.Answers.{told};
 ghost use Rattle.rows.specs.How.{seenOf, placed, noted, countRefusal, seenRefusal, seenTold};
 
-// The first six points, +0 where there are fewer, and whether all points so far may come in.
+// The first six feet, +0 and standing where there are fewer, and whether all points so far may come in.
 pub struct Seen {
-    pub row: [Point; 6],
+    pub row: [Foot; 6],
     pub finite: bool,
     pub permitted: bool,
 }
 
-// Before the first point.
+// Before the first foot.
 pub fn none() -> Seen
     ensures { λ r. ⌜ r ≡ seenOf [] ⌝ }
 {
@@ -24,15 +25,19 @@ pub fn none() -> Seen
         y: 0.0,
         z: 0.0,
     };
+    let unused = Foot {
+        point: origin,
+        lifted: false,
+    };
     Seen {
-        row: [origin; 6],
+        row: [unused; 6],
         finite: true,
         permitted: true,
     }
 }
 
 // With p in place i, where there is such a place.
-fn placed(row: [Point; 6], i: usize, p: Point) -> [Point; 6]
+fn placed(row: [Foot; 6], i: usize, p: Foot) -> [Foot; 6]
     ensures { λ r. ⌜ r ≡ placed row i p ⌝ }
 {
     if i < 6 {
@@ -44,8 +49,8 @@ fn placed(row: [Point; 6], i: usize, p: Point) -> [Point; 6]
     }
 }
 
-// With the point p, which is number i, counted from 0.
-pub fn noted(seen: Seen, i: usize, p: Point) -> Seen
+// With the foot p, which is number i, counted from 0.
+pub fn noted(seen: Seen, i: usize, p: Foot) -> Seen
     ensures { λ r. ⌜ r ≡ noted seen i p ⌝ }
 {
     let limit = numbers::limits::foot_limit();
@@ -53,12 +58,12 @@ pub fn noted(seen: Seen, i: usize, p: Point) -> Seen
     let row = placed(before, i, p);
     Seen {
         row: row,
-        finite: seen.finite & legs::core::point_finite(p),
-        permitted: seen.permitted & legs::core::point_permitted(limit, p),
+        finite: seen.finite & legs::core::point_finite(p.point),
+        permitted: seen.permitted & legs::core::point_permitted(limit, p.point),
     }
 }
 
-// 4 for a mask that names more than six legs, 5 where the number of points is not its count of ones, else 0.
+// 4 for a mask that names more than six legs, 5 where the number of feet is not its count of ones, else 0.
 fn count_refused(n: usize, mask: u32) -> u32
     ensures { λ r. ⌜ r ≡ countRefusal n mask ⌝ }
 {
@@ -71,7 +76,7 @@ fn count_refused(n: usize, mask: u32) -> u32
     }
 }
 
-// Why an update by n points is refused: the lowest number that applies, or 0.
+// Why an update by n feet is refused: the lowest number that applies, or 0.
 fn refused(feet: Feet, seen: Seen, n: usize, mask: u32) -> u32
     ensures { λ r. ⌜ r ≡ seenRefusal feet seen n mask ⌝ }
 {
@@ -83,7 +88,7 @@ fn refused(feet: Feet, seen: Seen, n: usize, mask: u32) -> u32
     }
 }
 
-// The answer to an update by n points, once all are read.
+// The answer to an update by n feet, once all are read.
 pub fn answered(feet: Feet, seen: Seen, n: usize, mask: u32) -> Planned
     ensures { λ r. ⌜ told r ≡ seenTold feet seen n mask ⌝ }
 {

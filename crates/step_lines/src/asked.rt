@@ -109,12 +109,12 @@ fn angles(p: Point) -> LegAngles {
 // Three floats a leg are its joints.
 pub fn joints(f: Feet) -> Joints {
     Joints {
-        left_front: angles(f.left_front),
-        left_middle: angles(f.left_middle),
-        left_rear: angles(f.left_rear),
-        right_front: angles(f.right_front),
-        right_middle: angles(f.right_middle),
-        right_rear: angles(f.right_rear),
+        left_front: angles(f.left_front.point),
+        left_middle: angles(f.left_middle.point),
+        left_rear: angles(f.left_rear.point),
+        right_front: angles(f.right_front.point),
+        right_middle: angles(f.right_middle.point),
+        right_rear: angles(f.right_rear.point),
     }
 }
 
@@ -122,12 +122,12 @@ pub fn joints(f: Feet) -> Joints {
 pub fn step(w: Words) -> StepIterator {
     StepIterator {
         start: read::feet(w, 0),
-        last: read::feet(w, 18),
-        target: read::feet(w, 36),
-        max_move: read::float(w, 54, 0),
-        step_height: read::float(w, 54, 1),
-        tripod: tripod(w, 54, 2),
-        aggressive_leg_lift: flag(w, 54, 3),
+        last: read::feet(w, 19),
+        target: read::feet(w, 38),
+        max_move: read::float(w, 57, 0),
+        step_height: read::float(w, 57, 1),
+        tripod: tripod(w, 57, 2),
+        aggressive_leg_lift: flag(w, 57, 3),
     }
 }
 
@@ -135,10 +135,10 @@ pub fn step(w: Words) -> StepIterator {
 pub fn timed_step(w: Words) -> TimedStepIterator {
     TimedStepIterator {
         start: read::feet(w, 0),
-        last: read::feet(w, 18),
-        target: read::feet(w, 36),
-        period: time(w, 54, 6),
-        lift: lift(w, 54),
+        last: read::feet(w, 19),
+        target: read::feet(w, 38),
+        period: time(w, 57, 6),
+        lift: lift(w, 57),
     }
 }
 
@@ -146,9 +146,9 @@ pub fn timed_step(w: Words) -> TimedStepIterator {
 pub fn even_step(w: Words) -> EvenStepIterator {
     EvenStepIterator {
         start: read::feet(w, 0),
-        last: read::feet(w, 18),
-        target: read::feet(w, 36),
-        period: time(w, 54, 6),
-        lift: lift(w, 54),
+        last: read::feet(w, 19),
+        target: read::feet(w, 38),
+        period: time(w, 57, 6),
+        lift: lift(w, 57),
     }
 }

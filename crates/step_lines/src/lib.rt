@@ -1,5 +1,5 @@
 // Operation lines (docs/OPERATIONS.md) on commands, steps, the planner and joints, and the constants. Where a field begins
-// among a line's words: a row has eighteen, a time two, a command seven.
+// among a line's words: a row has nineteen, the last its marks, a time two, a command seven.
 mod answers;
 mod asked;
 mod said;
@@ -36,7 +36,7 @@ fn step(w: Words) -> Words {
 // tstep: start, last, target, height, descent, tripod, aggressive, elapsed, period.
 fn timed_step(w: Words) -> Words {
     answers::next_timed(
-        asked::timed_step(w).next(asked::time(w, 54, 4)),
+        asked::timed_step(w).next(asked::time(w, 57, 4)),
         said::no_step(w),
     )
 }
@@ -44,7 +44,7 @@ fn timed_step(w: Words) -> Words {
 // estep: the same.
 fn even_step(w: Words) -> Words {
     answers::next_even(
-        asked::even_step(w).next(asked::time(w, 54, 4)),
+        asked::even_step(w).next(asked::time(w, 57, 4)),
         said::no_step(w),
     )
 }
@@ -53,11 +53,11 @@ fn even_step(w: Words) -> Words {
 fn step_iter(w: Words) -> Words {
     answers::step_iter(StepIterator::step(
         read::feet(w, 0),
-        read::feet(w, 18),
-        read::float(w, 36, 0),
-        read::float(w, 36, 1),
-        asked::tripod(w, 36, 2),
-        asked::flag(w, 36, 3),
+        read::feet(w, 19),
+        read::float(w, 38, 0),
+        read::float(w, 38, 1),
+        asked::tripod(w, 38, 2),
+        asked::flag(w, 38, 3),
     ))
 }
 
@@ -65,9 +65,9 @@ fn step_iter(w: Words) -> Words {
 fn timed_iter(w: Words) -> Words {
     answers::timed_iter(TimedStepIterator::step(
         read::feet(w, 0),
-        read::feet(w, 18),
-        asked::time(w, 36, 4),
-        asked::lift(w, 36),
+        read::feet(w, 19),
+        asked::time(w, 38, 4),
+        asked::lift(w, 38),
     ))
 }
 
@@ -75,9 +75,9 @@ fn timed_iter(w: Words) -> Words {
 fn even_iter(w: Words) -> Words {
     answers::even_iter(EvenStepIterator::step(
         read::feet(w, 0),
-        read::feet(w, 18),
-        asked::time(w, 36, 4),
-        asked::lift(w, 36),
+        read::feet(w, 19),
+        asked::time(w, 38, 4),
+        asked::lift(w, 38),
     ))
 }
 
@@ -123,9 +123,9 @@ fn defaults() -> Words {
 fn plan(w: Words) -> Words {
     fields::answers::planned(hopper::steps::step_with_relaxed_transformation(
         read::feet(w, 0),
-        read::feet(w, 18),
-        asked::tripod(w, 36, 0),
-        asked::command(w, 37),
+        read::feet(w, 19),
+        asked::tripod(w, 38, 0),
+        asked::command(w, 39),
     ))
 }
 
@@ -141,14 +141,14 @@ fn flag(w: Words) -> Words {
 
 // ik: a row and a configuration.
 fn inverse(w: Words) -> Words {
-    answers::solution(hopper::joints::calculate_ik(read::feet(w, 0), asked::configuration(w, 18)))
+    answers::solution(hopper::joints::calculate_ik(read::feet(w, 0), asked::configuration(w, 19)))
 }
 
 // iks: the same, strict.
 fn strict_inverse(w: Words) -> Words {
     answers::solution(hopper::joints::calculate_ik_strict(
         read::feet(w, 0),
-        asked::configuration(w, 18),
+        asked::configuration(w, 19),
     ))
 }
 
@@ -156,7 +156,7 @@ fn strict_inverse(w: Words) -> Words {
 fn forward(w: Words) -> Words {
     fields::answers::planned(hopper::joints::calculate_fk(
         asked::joints(read::feet(w, 0)),
-        asked::configuration(w, 18),
+        asked::configuration(w, 19),
     ))
 }
 

@@ -100,5 +100,5 @@ pub fn even_step(o: Words, s: EvenStepIterator) -> Words {
 
 // `N` and last as it was: the line's second row.
 pub fn no_step(w: Words) -> Words {
-    words::feet(words::marked(b'N'), fields::asked::feet(w, 18))
+    words::feet(words::marked(b'N'), fields::asked::feet(w, 19))
 }

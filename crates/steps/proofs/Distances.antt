@@ -25,7 +25,8 @@ use Rattle.units.proofs.Door.{permitted}
 use Rattle.units.proofs.Table.{root-argument-ends}
 use Rattle.roots.specs.Root.{squareRoot}
 use Rattle.roots.proofs.Laws.{rooted, root-fits, root-high}
-use Rattle.legs.specs.Legs.{Leg, leftFront, rightFront, leftMiddle, rightMiddle, leftRear, rightRear, foot, permittedPoint, permittedFeet}
+use Rattle.legs.specs.Legs.{Leg, leftFront, rightFront, leftMiddle, rightMiddle, leftRear, rightRear}
+use Rattle.legs.specs.Legs.{points, foot, permittedPoint, permittedFeet}
 use Rattle.legs.specs.declared.Feet.{Feet}
 use Rattle.bounds.specs.Between.{Between, HeldFeet}
 use Rattle.bounds.proofs.Between.{made, result-between, sum-between, product-between}
@@ -86,7 +87,7 @@ module _ (a b : Feet) (A : HeldFeet a) (B : HeldFeet b) (h : T (permittedFeet ro
       (each-of-every (λ g. permittedPoint rows.footLimit (foot a g)) h l)
       (each-of-every (λ g. permittedPoint rows.footLimit (foot b g)) k l)
 
-  longest-distance : Distance (maxHorizontalDistance a b)
+  longest-distance : Distance (maxHorizontalDistance (points a) (points b))
   unfolding maxHorizontalDistance horizontalDistance
   longest-distance =
       let d : (l : Leg) → Distance (squareRoot (horizontalSum (foot a l) (foot b l))) =
@@ -168,10 +169,10 @@ module _ (s : StepIterator) (A : HeldFeet (s .start)) (B : HeldFeet (s .last)) (
   taken = none-refused (finiteStep s) (permittedStep s) e
 
   abbrev full : Float
-  full = maxHorizontalDistance (s .start) (s .target)
+  full = maxHorizontalDistance (points (s .start)) (points (s .target))
 
   abbrev gone : Float
-  gone = maxHorizontalDistance (s .last) (s .start)
+  gone = maxHorizontalDistance (points (s .last)) (points (s .start))
 
   -- whatever the step, its progress is at most 1, and the sine is asked for within its table
   pub step-progress-between : stepEnded full ≡ false → Between 1 1 (stepProgress gone (s .«max_move») full)

@@ -7,19 +7,22 @@ use mathlib.Core.Bool.{Bool, true, false, not, _&&_, _||_, true≢false}
 use lib.Ieee.{Float, le}
 use Rattle.commands.specs.Constants.{one}
 use Rattle.numbers.specs.Told.{choose}
-use Rattle.legs.specs.Legs.{Leg, leftFront, rightFront, leftMiddle, rightMiddle, leftRear, rightRear, foot, every, some}
+use Rattle.legs.specs.Legs.{Leg, leftFront, rightFront, leftMiddle, rightMiddle, leftRear, rightRear, every, some}
+use Rattle.legs.specs.Legs.{point, points, foot}
 use Rattle.legs.specs.declared.Point.{Point}
+use Rattle.legs.specs.declared.Points.{Points}
 use Rattle.legs.specs.declared.Feet.{Feet}
 use Rattle.moves.specs.Distance.{same, maxHorizontalDistance}
 use Rattle.moves.specs.Moving.{hasMoved, oneMoved}
 use Rattle.moves.specs.declared.MoveStep.the-variants.{Moved, Arrived}
-use Rattle.moves.specs.declared.FeetStep.{FeetStep}
-use Rattle.moves.specs.declared.FeetStep.the-variants.{Moved as FeetMoved, Arrived as FeetArrived}
+use Rattle.moves.specs.declared.core.PointsStep.{PointsStep}
+use Rattle.moves.specs.declared.core.PointsStep.the-variants.{Moved as PointsMoved, Arrived as PointsArrived}
 use Rattle.commands.specs.declared.Time.{Time}
 use Rattle.steps.specs.Leg.{stepLiftedLeg}
 use Rattle.steps.specs.Progress.{stepProgress, timedProgress, evenProgress}
 use Rattle.steps.specs.Shift.{heightOf, legStep, shiftLegs}
 use Rattle.steps.specs.Next.{onward, stepEnded, timedEnded, stepLift, byTime, stepLast, timedLast, evenLast}
+use Rattle.steps.specs.Next.{stepFeet, timedFeet, evenFeet}
 use Rattle.steps.specs.Next.{timedAt, evenAt, nextStep, nextTimed, nextEven}
 use Rattle.steps.specs.declared.Lift.{Lift}
 use Rattle.steps.specs.declared.StepIterator.{StepIterator}
@@ -57,12 +60,15 @@ not-all true true true false e f = cc
 not-all true true true true false f = cc
 not-all true true true true true f = refl
 
-module _ (start last target : Feet) (lift : Lift) (progress : Float) where
-  each-moved : (l : Leg) → hasMoved (legStep start last target lift progress l) ≡ not (there last target l)
-  each-moved l =
-      leg-moved (foot start l) (foot last l) (foot target l) (heightOf lift l) progress (lift .«aggressive_leg_lift»)
+abbrev at : Points → Points → Leg → Bool
+at last target l = same (point last l) (point target l)
 
-  some-moved : some (λ l. hasMoved (legStep start last target lift progress l)) ≡ some (λ l. not (there last target l))
+module _ (start last target : Points) (lift : Lift) (progress : Float) where
+  each-moved : (l : Leg) → hasMoved (legStep start last target lift progress l) ≡ not (at last target l)
+  each-moved l =
+      leg-moved (point start l) (point last l) (point target l) (heightOf lift l) progress (lift .«aggressive_leg_lift»)
+
+  some-moved : some (λ l. hasMoved (legStep start last target lift progress l)) ≡ some (λ l. not (at last target l))
   some-moved =
       simp (
         each-moved leftFront,
@@ -73,62 +79,65 @@ module _ (start last target : Feet) (lift : Lift) (progress : Float) where
         each-moved rightRear,
       )
 
-  pub one-moved : oneMoved (shiftLegs start last target lift progress) ≡ not (all-there last target)
+  pub one-moved : oneMoved (shiftLegs start last target lift progress) ≡ not (every (at last target))
   one-moved =
-      let b = there last target in
+      let b = at last target in
       shared-flag start last target lift progress ∙ some-moved
       ∙ not-all (b leftFront) (b rightFront) (b leftMiddle) (b rightMiddle) (b leftRear) (b rightRear)
 
 -- ---- whatever the state: `step` and `none` are what a step that moved leads to and one that did not, `all` is whether all six feet were
 -- at their targets
-module _ {N : Type 0} (step : Feet → N) (none : N) (differ : (f : Feet) → none ≡ step f → ⊥) (all : Bool) where
-  stood : (g : FeetStep) → oneMoved g ≡ not all → (onward step none g ≡ none) ↔ (all ≡ true)
+module _ {N : Type 0} (step : Points → N) (none : N) (differ : (p : Points) → none ≡ step p → ⊥) (all : Bool) where
+  stood : (g : PointsStep) → oneMoved g ≡ not all → (onward step none g ≡ none) ↔ (all ≡ true)
   unfolding oneMoved
-  stood (FeetMoved f) h = (λ e. absurd (differ f (sym e)), λ e. absurd (true≢false (moved e)))
+  stood (PointsMoved p) h = (λ e. absurd (differ p (sym e)), λ e. absurd (true≢false (moved e)))
     where
       moved : all ≡ true → true ≡ false
       moved e = simp (h, e)
-  stood (FeetArrived f) h = (λ e. by-flag all h, λ e. refl)
+  stood (PointsArrived p) h = (λ e. by-flag all h, λ e. refl)
     where
       by-flag : (b : Bool) → false ≡ not b → b ≡ true
       by-flag true h = refl
       by-flag false h = absurd (true≢false (sym h))
 
   -- or it was over before a leg was asked
-  ended : (over : Bool) (g : FeetStep) → oneMoved g ≡ not all
+  ended : (over : Bool) (g : PointsStep) → oneMoved g ≡ not all
       → (choose over none (onward step none g) ≡ none) ↔ ((over || all) ≡ true)
   ended true g h = (λ e. refl, λ e. refl)
   ended false g h = stood g h
 
-  ended-by-time : (over : Bool) (last : Feet) (g : FeetStep) → oneMoved g ≡ not all
-      → (onward step none (choose over (FeetArrived last) g) ≡ none) ↔ ((over || all) ≡ true)
+  ended-by-time : (over : Bool) (last : Points) (g : PointsStep) → oneMoved g ≡ not all
+      → (onward step none (choose over (PointsArrived last) g) ≡ none) ↔ ((over || all) ≡ true)
   ended-by-time true last g h = (λ e. refl, λ e. refl)
   ended-by-time false last g h = stood g h
 
 -- ---- by distance
 pub step-ends : (s : StepIterator)
     → (nextStep s ≡ NoStep)
-    ↔ ((stepEnded (maxHorizontalDistance (s .start) (s .target)) || all-there (s .last) (s .target)) ≡ true)
+    ↔ ((stepEnded (maxHorizontalDistance (points (s .start)) (points (s .target))) || all-there (s .last) (s .target)) ≡ true)
 unfolding nextStep
 step-ends s =
-    let full = maxHorizontalDistance (s .start) (s .target) in
-    let p = stepProgress (maxHorizontalDistance (s .last) (s .start)) (s .«max_move») full in
-    ended (λ f. Step f (stepLast s f)) NoStep (λ f. step-some f (stepLast s f)) (all-there (s .last) (s .target)) (stepEnded full)
-    (shiftLegs (s .start) (s .last) (s .target) (stepLift s) p)
-    (one-moved (s .start) (s .last) (s .target) (stepLift s) p)
+    let full = maxHorizontalDistance (points (s .start)) (points (s .target)) in
+    let p = stepProgress (maxHorizontalDistance (points (s .last)) (points (s .start))) (s .«max_move») full in
+    ended (λ q. Step (stepFeet s q) (stepLast s (stepFeet s q))) NoStep (λ q. step-some (stepFeet s q) (stepLast s (stepFeet s q)))
+    (all-there (s .last) (s .target)) (stepEnded full)
+    (shiftLegs (points (s .start)) (points (s .last)) (points (s .target)) (stepLift s) p)
+    (one-moved (points (s .start)) (points (s .last)) (points (s .target)) (stepLift s) p)
 
 -- ---- by time
 pub timed-ends : (s : TimedStepIterator) (elapsed : Time)
     → (nextTimed s elapsed ≡ NoTimedStep)
-    ↔ ((timedEnded (maxHorizontalDistance (s .start) (s .target)) || all-there (s .last) (s .target)) ≡ true)
+    ↔ ((timedEnded (maxHorizontalDistance (points (s .start)) (points (s .target))) || all-there (s .last) (s .target)) ≡ true)
 unfolding nextTimed timedAt byTime
 timed-ends s elapsed =
     let p = timedProgress elapsed (s .period) in
-    ended-by-time (λ f. TimedStep f (timedLast s f)) NoTimedStep (λ f. timed-some f (timedLast s f)) (all-there (s .last) (s .target))
-    (timedEnded (maxHorizontalDistance (s .start) (s .target)))
-    (s .last)
-    (shiftLegs (s .start) (s .last) (s .target) (s .lift) p)
-    (one-moved (s .start) (s .last) (s .target) (s .lift) p)
+    ended-by-time (λ q. TimedStep (timedFeet s q) (timedLast s (timedFeet s q))) NoTimedStep
+    (λ q. timed-some (timedFeet s q) (timedLast s (timedFeet s q)))
+    (all-there (s .last) (s .target))
+    (timedEnded (maxHorizontalDistance (points (s .start)) (points (s .target))))
+    (points (s .last))
+    (shiftLegs (points (s .start)) (points (s .last)) (points (s .target)) (s .lift) p)
+    (one-moved (points (s .start)) (points (s .last)) (points (s .target)) (s .lift) p)
 
 -- ---- at even pace: THE PROMISE OF K5
 pub even-ends : (s : EvenStepIterator) (elapsed : Time)
@@ -136,9 +145,10 @@ pub even-ends : (s : EvenStepIterator) (elapsed : Time)
 unfolding nextEven evenAt
 even-ends s elapsed =
     let p = evenProgress elapsed (s .period) in
-    stood (λ f. EvenStep f (evenLast s f)) NoEvenStep (λ f. even-some f (evenLast s f)) (all-there (s .last) (s .target))
-    (shiftLegs (s .start) (s .last) (s .target) (s .lift) p)
-    (one-moved (s .start) (s .last) (s .target) (s .lift) p)
+    stood (λ q. EvenStep (evenFeet s q) (evenLast s (evenFeet s q))) NoEvenStep (λ q. even-some (evenFeet s q) (evenLast s (evenFeet s q)))
+    (all-there (s .last) (s .target))
+    (shiftLegs (points (s .start)) (points (s .last)) (points (s .target)) (s .lift) p)
+    (one-moved (points (s .start)) (points (s .last)) (points (s .target)) (s .lift) p)
 
 -- for a host: where there is a step, a foot was not at its target
 one-away : (b : Leg → Bool) → (every b ≡ true → ⊥) → (l : Leg) × (b l ≡ false)

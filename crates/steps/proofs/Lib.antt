@@ -8,6 +8,8 @@ pub mod Distances
 pub mod FootByFoot
 pub mod Taken
 pub mod Ends
+pub mod Marks
 pub mod Examples
+pub mod MarkExamples
 pub mod Straight
 pub mod OneAnswer

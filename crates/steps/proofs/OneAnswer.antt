@@ -1,15 +1,18 @@
--- What is told of an answer on steps can be read back, so telling loses nothing and no second answer fits a contract stated by it.
-use mathlib.Core.Path.{_≡_, refl, ap, ap₂}
+-- What is told of an answer on steps can be read back, marks and floats together, so telling loses nothing and no second answer fits a
+-- contract stated by it.
+use mathlib.Core.Path.{_≡_, refl, ap, ap₂, _∙_}
 use mathlib.Core.Bool.{Bool}
 use mathlib.Core.List.{List, [], _∷_}
-use Prim.Native.Nat.{ℕ, zero, suc, _+_}
+use Prim.Native.Nat.{ℕ, zero, suc}
 use lib.Dec.{eqb}
 use lib.ListN.{getD, drop}
 use lib.Ieee.{Float, nan}
-use Rattle.numbers.specs.Told.{Told}
-use Rattle.legs.specs.declared.Point.{Point}
+use Rattle.numbers.specs.Told.{Told, mark}
 use Rattle.legs.specs.declared.Feet.{Feet}
-use Rattle.commands.proofs.OneAnswer.{undone, flag-of-mark, tripod-of-mark, tripod-back}
+use Rattle.numbers.proofs.OneAnswer.{undone, flag-of-mark}
+use Rattle.legs.specs.Legs.{points, lifted, marked}
+use Rattle.legs.proofs.OneAnswer.{feet-at, marks-back}
+use Rattle.commands.proofs.OneAnswer.{tripod-of-mark, tripod-back}
 use Rattle.commands.specs.declared.Time.{Time}
 use Rattle.commands.specs.declared.Tripod.{Tripod}
 use Rattle.steps.specs.Answers.{stepMarks, stepValues, liftMarks, liftValues}
@@ -31,67 +34,63 @@ use Rattle.steps.specs.declared.NextTimed.the-variants.{Step as TimedSte
 use Rattle.steps.specs.declared.NextEven.{NextEven}
 use Rattle.steps.specs.declared.NextEven.the-variants.{Step as EvenStep, NoStep as NoEvenStep, Refused as EvenStepRefused}
 
--- ---- a foot, six feet, a lift and a period, from the floats and the marks of a state
-point-at : List Float → ℕ → Point
-point-at xs k = record { x = getD xs k nan; y = getD xs (k + 1) nan; z = getD xs (k + 2) nan }
-
-feet-at : List Float → ℕ → Feet
-feet-at xs k =
-    record {
-      «left_front» = point-at xs k;
-      «right_front» = point-at xs (k + 3);
-      «left_middle» = point-at xs (k + 6);
-      «right_middle» = point-at xs (k + 9);
-      «left_rear» = point-at xs (k + 12);
-      «right_rear» = point-at xs (k + 15);
-    }
-
+-- ---- a lift, from its floats and marks
 lift : Float → Float → Tripod → Bool → Lift
 lift height descent t b =
     record { «step_height» = height; «grounded_leg_descent» = descent; tripod = t; «aggressive_leg_lift» = b }
 
+-- ---- feet as their marks tell them, and three sets of them
+abbrev again : Feet → Feet
+again f = marked (λ l. eqb (mark (lifted f l)) 1) (points f)
+
+course-back : {S : Type 0} (make : Feet → Feet → Feet → S) (a b c : Feet) → make (again a) (again b) (again c) ≡ make a b c
+course-back make a b c =
+    ap (λ (f : Feet). make f (again b) (again c)) (marks-back a) ∙ ap₂ (make a) (marks-back b) (marks-back c)
+
 -- ---- a state by distance
-step-of : List ℕ → List Float → StepIterator
-step-of ks xs =
+step-made : Feet → Feet → Feet → Float → Float → Tripod → Bool → StepIterator
+step-made a b c move height t aggressive =
     record {
-      start = feet-at xs 2;
-      last = feet-at xs 20;
-      target = feet-at xs 38;
-      «max_move» = getD xs 0 nan;
-      «step_height» = getD xs 1 nan;
-      tripod = tripod-of-mark (getD ks 0 0);
-      «aggressive_leg_lift» = eqb (getD ks 1 0) 1;
+      start = a;
+      last = b;
+      target = c;
+      «max_move» = move;
+      «step_height» = height;
+      tripod = t;
+      «aggressive_leg_lift» = aggressive;
     }
 
+step-of : List ℕ → List Float → StepIterator
+step-of ks xs =
+    step-made (feet-at ks 2 xs 2) (feet-at ks 8 xs 20) (feet-at ks 14 xs 38)
+    (getD xs 0 nan) (getD xs 1 nan) (tripod-of-mark (getD ks 0 0)) (eqb (getD ks 1 0) 1)
+
 step-back : (s : StepIterator) → step-of (stepMarks s) (stepValues s) ≡ s
-unfolding step-of feet-at point-at
+unfolding step-of step-made
 step-back s =
+    let m = s .«max_move» in
+    let h = s .«step_height» in
     ap₂
-    (λ (t : Tripod) (b : Bool).
-    record {
-      start = s .start;
-      last = s .last;
-      target = s .target;
-      «max_move» = s .«max_move»;
-      «step_height» = s .«step_height»;
-      tripod = t;
-      «aggressive_leg_lift» = b;
-    })
+    (λ (t : Tripod) (b : Bool). step-made (again (s .start)) (again (s .last)) (again (s .target)) m h t b)
     (tripod-back (s .tripod)) (flag-of-mark (s .«aggressive_leg_lift»))
+    ∙ course-back (λ a b c. step-made a b c m h (s .tripod) (s .«aggressive_leg_lift»)) (s .start) (s .last) (s .target)
 
 -- ---- a state by time, at either pace: `make` puts start, last, target, period and lift together
 module _ {S : Type 0} (make : Feet → Feet → Feet → Time → Lift → S) where
   timed-of : List ℕ → List Float → S
   timed-of ks xs =
-      make (feet-at xs 2) (feet-at xs 20) (feet-at xs 38)
+      make (feet-at ks 4 xs 2) (feet-at ks 10 xs 20) (feet-at ks 16 xs 38)
       (record { seconds = getD ks 2 0; nanoseconds = getD ks 3 0 })
       (lift (getD xs 0 nan) (getD xs 1 nan) (tripod-of-mark (getD ks 0 0)) (eqb (getD ks 1 0) 1))
 
-  timed-back : (a b c : Feet) (p : Time) (l : Lift) → timed-of (liftMarks l p) (liftValues l a b c) ≡ make a b c p l
-  unfolding timed-of feet-at point-at lift
+  timed-back : (a b c : Feet) (p : Time) (l : Lift) → timed-of (liftMarks l p a b c) (liftValues l a b c) ≡ make a b c p l
+  unfolding timed-of lift
   timed-back a b c p l =
-      ap₂ (λ (t : Tripod) (f : Bool). make a b c p (lift (l .«step_height») (l .«grounded_leg_descent») t f))
+      ap₂
+      (λ (t : Tripod) (f : Bool).
+      make (again a) (again b) (again c) p (lift (l .«step_height») (l .«grounded_leg_descent») t f))
       (tripod-back (l .tripod)) (flag-of-mark (l .«aggressive_leg_lift»))
+      ∙ course-back (λ a b c. make a b c p l) a b c
 
 timed : Feet → Feet → Feet → Time → Lift → TimedStepIterator
 timed a b c p l = record { start = a; last = b; target = c; period = p; lift = l }
@@ -109,7 +108,7 @@ module _ {S A : Type 0} (step : Feet → S → A) (none : A) (refuse : ℕ → A
   next : List ℕ → Told → A
   next [] t = refuse (t .number)
   next (zero ∷ ks) t = none
-  next (suc k ∷ ks) t = step (feet-at (t .values) 0) (of ks (drop 18 (t .values)))
+  next (suc k ∷ ks) t = step (feet-at ks 0 (t .values) 0) (of (drop 6 ks) (drop 18 (t .values)))
 
 -- ---- by distance
 step-iter-back : (a : StepIter) → set-out State Refused step-of (toldStepIter a .marks) (toldStepIter a) ≡ a
@@ -118,8 +117,8 @@ step-iter-back (State s) = ap State (step-back s)
 step-iter-back (Refused n) = refl
 
 next-step-back : (a : NextStep) → next Step NoStep StepRefused step-of (toldNextStep a .marks) (toldNextStep a) ≡ a
-unfolding next feet-at point-at
-next-step-back (Step f s) = ap (Step f) (step-back s)
+unfolding next
+next-step-back (Step f s) = ap₂ Step (marks-back f) (step-back s)
 next-step-back NoStep = refl
 next-step-back (StepRefused n) = refl
 
@@ -131,7 +130,9 @@ toldNextStep-loses-nothing = undone toldNextStep (λ t. next Step NoStep StepRef
 
 -- ---- by time
 timed-state-back : (s : TimedStepIterator)
-    → timed-of timed (liftMarks (s .lift) (s .period)) (liftValues (s .lift) (s .start) (s .last) (s .target)) ≡ s
+    → timed-of timed
+    (liftMarks (s .lift) (s .period) (s .start) (s .last) (s .target))
+    (liftValues (s .lift) (s .start) (s .last) (s .target)) ≡ s
 unfolding timed
 timed-state-back s = timed-back timed (s .start) (s .last) (s .target) (s .period) (s .lift)
 
@@ -142,8 +143,8 @@ timed-iter-back (TimedRefused n) = refl
 
 next-timed-back : (a : NextTimed)
     → next TimedStep NoTimedStep TimedStepRefused (timed-of timed) (toldNextTimed a .marks) (toldNextTimed a) ≡ a
-unfolding next feet-at point-at
-next-timed-back (TimedStep f s) = ap (TimedStep f) (timed-state-back s)
+unfolding next
+next-timed-back (TimedStep f s) = ap₂ TimedStep (marks-back f) (timed-state-back s)
 next-timed-back NoTimedStep = refl
 next-timed-back (TimedStepRefused n) = refl
 
@@ -157,7 +158,9 @@ toldNextTimed-loses-nothing =
 
 -- ---- at even pace
 even-state-back : (s : EvenStepIterator)
-    → timed-of even (liftMarks (s .lift) (s .period)) (liftValues (s .lift) (s .start) (s .last) (s .target)) ≡ s
+    → timed-of even
+    (liftMarks (s .lift) (s .period) (s .start) (s .last) (s .target))
+    (liftValues (s .lift) (s .start) (s .last) (s .target)) ≡ s
 unfolding even
 even-state-back s = timed-back even (s .start) (s .last) (s .target) (s .period) (s .lift)
 
@@ -168,8 +171,8 @@ even-iter-back (EvenRefused n) = refl
 
 next-even-back : (a : NextEven)
     → next EvenStep NoEvenStep EvenStepRefused (timed-of even) (toldNextEven a .marks) (toldNextEven a) ≡ a
-unfolding next feet-at point-at
-next-even-back (EvenStep f s) = ap (EvenStep f) (even-state-back s)
+unfolding next
+next-even-back (EvenStep f s) = ap₂ EvenStep (marks-back f) (even-state-back s)
 next-even-back NoEvenStep = refl
 next-even-back (EvenStepRefused n) = refl
 

@@ -24,7 +24,7 @@ use Rattle.units.proofs.Grid.{grid-zero}
 use Rattle.units.proofs.Held.{single}
 use Rattle.units.proofs.Order.{eq-part}
 use Rattle.units.proofs.Values.{one-side, part-finite}
-use Rattle.legs.specs.Legs.{Leg, foot, permittedPoint, permittedFeet}
+use Rattle.legs.specs.Legs.{Leg, points, foot, permittedPoint, permittedFeet}
 use Rattle.legs.specs.declared.Point.{Point}
 use Rattle.legs.specs.declared.Feet.{Feet}
 use Rattle.legs.proofs.Laws.{each-of-every}
@@ -36,6 +36,7 @@ use Rattle.moves.specs.Moving.{pointOf}
 use Rattle.moves.specs.declared.MoveStep.the-variants.{Moved, Arrived}
 use Rattle.steps.specs.Leg.{partWay, above, stepLiftedLeg}
 use Rattle.steps.specs.Progress.{evenProgress}
+use Rattle.steps.specs.Marks.{stepped}
 use Rattle.steps.specs.Shift.{heightOf, legStep}
 use Rattle.steps.specs.Next.{nextEven}
 use Rattle.steps.specs.Refusals.{timely, finiteLift, permittedLift, permittedCourse, liftRefusal}
@@ -100,10 +101,11 @@ module _ (s s' : EvenStepIterator) (elapsed : Time) (f : Feet) (e : nextEven s e
   abbrev progress : Float
   progress = evenProgress elapsed (s .period)
 
-  its-step : foot f l ≡ pointOf (legStep (s .start) (s .last) (s .target) (s .lift) progress l)
+  its-step : foot f l ≡ pointOf (legStep (points (s .start)) (points (s .last)) (points (s .target)) (s .lift) progress l)
+  unfolding stepped
   its-step =
       ap (λ (g : Feet). foot g l) (even-step-taken s s' elapsed f e .0)
-      ∙ each-foot (s .start) (s .last) (s .target) (s .lift) progress l
+      ∙ each-foot (points (s .start)) (points (s .last)) (points (s .target)) (s .lift) progress l
 
   -- once the time is up
   pub at-its-target : le one progress ≡ true → foot f l ≡ foot (s .target) l

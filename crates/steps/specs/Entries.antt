@@ -51,7 +51,7 @@ unfoldable pub timedIterTold : Feet → Feet → Time → Lift → Told
 timedIterTold start target period lift =
     answer
     (liftRefusal start start target lift (periodPermitted period))
-    (given (liftMarks lift period) (liftValues lift start start target))
+    (given (liftMarks lift period start start target) (liftValues lift start start target))
 
 unfoldable pub nextTimedTold : TimedStepIterator → Time → Told
 nextTimedTold s elapsed =

@@ -1,6 +1,7 @@
 pub mod Progress
 pub mod Leg
 pub mod Shift
+pub mod Marks
 pub mod Next
 pub mod Answers
 pub mod Refusals

@@ -1,16 +1,19 @@
--- Document 01, "Steps", with request K5: the three iterators. A step that moved hands on its feet, and the state that remembers
+-- Document 01, "Steps", with requests K5 and K12: the three iterators. A step that moved hands on its feet, and the state that remembers
 -- them; "No step" leaves all as it is.
 use Rattle.commands.specs.Constants.{nought}
 use mathlib.Core.Bool.{Bool}
 use lib.Ieee.{Float, eq, le}
 use Rattle.numbers.specs.Told.{choose}
+use Rattle.legs.specs.Legs.{points}
+use Rattle.legs.specs.declared.Points.{Points}
 use Rattle.legs.specs.declared.Feet.{Feet}
 use Rattle.moves.specs.Distance.{maxHorizontalDistance}
-use Rattle.moves.specs.declared.FeetStep.{FeetStep}
-use Rattle.moves.specs.declared.FeetStep.the-variants.{Moved, Arrived}
+use Rattle.moves.specs.declared.core.PointsStep.{PointsStep}
+use Rattle.moves.specs.declared.core.PointsStep.the-variants.{Moved, Arrived}
 use Rattle.commands.specs.declared.Time.{Time}
 use Rattle.steps.specs.Progress.{stepProgress, timedProgress, evenProgress}
 use Rattle.steps.specs.Shift.{shiftLegs}
+use Rattle.steps.specs.Marks.{stepped}
 use Rattle.steps.specs.declared.Lift.{Lift}
 use Rattle.steps.specs.declared.StepIterator.{StepIterator}
 use Rattle.steps.specs.declared.TimedStepIterator.{TimedStepIterator}
@@ -30,10 +33,10 @@ stepEnded full = eq full nought
 abbrev pub timedEnded : Float → Bool
 timedEnded full = le full nought
 
--- what follows a step: its feet go on, or there is none
-abbrev pub onward : {N : Type 0} → (Feet → N) → N → FeetStep → N
-onward step none (Moved f) = step f
-onward step none (Arrived f) = none
+-- what follows a step: its points go on, or there is none
+abbrev pub onward : {N : Type 0} → (Points → N) → N → PointsStep → N
+onward step none (Moved p) = step p
+onward step none (Arrived p) = none
 
 -- `StepIterator`: "its descent is 0"
 abbrev pub stepLift : StepIterator → Lift
@@ -58,22 +61,26 @@ stepLast s f =
       «aggressive_leg_lift» = s .«aggressive_leg_lift»;
     }
 
-abbrev pub stepAfter : StepIterator → FeetStep → NextStep
-stepAfter s = onward (λ f. Step f (stepLast s f)) NoStep
+-- the feet of its step, and what follows
+abbrev pub stepFeet : StepIterator → Points → Feet
+stepFeet s = stepped (s .tripod) (s .last) (s .target)
+
+abbrev pub stepAfter : StepIterator → PointsStep → NextStep
+stepAfter s = onward (λ p. Step (stepFeet s p) (stepLast s (stepFeet s p))) NoStep
 
 unfoldable pub nextStep : StepIterator → NextStep
 nextStep s =
-    choose (stepEnded (maxHorizontalDistance (s .start) (s .target)))
+    choose (stepEnded (maxHorizontalDistance (points (s .start)) (points (s .target))))
     NoStep
     (stepAfter s
-    (shiftLegs (s .start) (s .last) (s .target) (stepLift s)
+    (shiftLegs (points (s .start)) (points (s .last)) (points (s .target)) (stepLift s)
     (stepProgress
-    (maxHorizontalDistance (s .last) (s .start))
+    (maxHorizontalDistance (points (s .last)) (points (s .start)))
     (s .«max_move»)
-    (maxHorizontalDistance (s .start) (s .target)))))
+    (maxHorizontalDistance (points (s .start)) (points (s .target))))))
 
 -- the six legs of `TimedStepIterator`, as the source has it
-unfoldable pub byTime : Feet → Feet → Feet → Lift → Float → FeetStep
+unfoldable pub byTime : Points → Points → Points → Lift → Float → PointsStep
 byTime start last target lift progress =
     choose (timedEnded (maxHorizontalDistance start target))
     (Arrived last)
@@ -82,12 +89,15 @@ byTime start last target lift progress =
 abbrev pub timedLast : TimedStepIterator → Feet → TimedStepIterator
 timedLast s f = record { start = s .start; last = f; target = s .target; period = s .period; lift = s .lift }
 
-abbrev pub timedAfter : TimedStepIterator → FeetStep → NextTimed
-timedAfter s = onward (λ f. TimedStep f (timedLast s f)) NoTimedStep
+abbrev pub timedFeet : TimedStepIterator → Points → Feet
+timedFeet s = stepped (s .lift .tripod) (s .last) (s .target)
+
+abbrev pub timedAfter : TimedStepIterator → PointsStep → NextTimed
+timedAfter s = onward (λ p. TimedStep (timedFeet s p) (timedLast s (timedFeet s p))) NoTimedStep
 
 -- at this progress, and at this time
 unfoldable pub timedAt : TimedStepIterator → Float → NextTimed
-timedAt s progress = timedAfter s (byTime (s .start) (s .last) (s .target) (s .lift) progress)
+timedAt s progress = timedAfter s (byTime (points (s .start)) (points (s .last)) (points (s .target)) (s .lift) progress)
 
 unfoldable pub nextTimed : TimedStepIterator → Time → NextTimed
 nextTimed s elapsed = timedAt s (timedProgress elapsed (s .period))
@@ -98,11 +108,14 @@ nextTimed s elapsed = timedAt s (timedProgress elapsed (s .period))
 abbrev pub evenLast : EvenStepIterator → Feet → EvenStepIterator
 evenLast s f = record { start = s .start; last = f; target = s .target; period = s .period; lift = s .lift }
 
-abbrev pub evenAfter : EvenStepIterator → FeetStep → NextEven
-evenAfter s = onward (λ f. EvenStep f (evenLast s f)) NoEvenStep
+abbrev pub evenFeet : EvenStepIterator → Points → Feet
+evenFeet s = stepped (s .lift .tripod) (s .last) (s .target)
+
+abbrev pub evenAfter : EvenStepIterator → PointsStep → NextEven
+evenAfter s = onward (λ p. EvenStep (evenFeet s p) (evenLast s (evenFeet s p))) NoEvenStep
 
 unfoldable pub evenAt : EvenStepIterator → Float → NextEven
-evenAt s progress = evenAfter s (shiftLegs (s .start) (s .last) (s .target) (s .lift) progress)
+evenAt s progress = evenAfter s (shiftLegs (points (s .start)) (points (s .last)) (points (s .target)) (s .lift) progress)
 
 unfoldable pub nextEven : EvenStepIterator → Time → NextEven
 nextEven s elapsed = evenAt s (evenProgress elapsed (s .period))

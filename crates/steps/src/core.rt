@@ -9,9 +9,11 @@ use crate::TimedStepIterator;
 use commands::Time;
 use commands::Tripod;
 use legs::Feet;
+use legs::Foot;
 use legs::Point;
-use moves::FeetStep;
+use legs::Points;
 use moves::MoveStep;
+use moves::core::PointsStep;
 ghost use mathlib.Core.Path.{_≡_};
 ghost use Rattle.commands.specs.How.{capped};
 ghost use Rattle.steps.specs.Refusals.{timely, finiteCourse, permittedCourse};
@@ -19,6 +21,7 @@ ghost use Rattle.steps.specs.Progress.{stepProgress, timedProgress, even
 ghost use Rattle.steps.specs.Leg.{stepLiftedLeg};
 ghost use Rattle.legs.specs.Legs.{leftFront, rightFront};
 ghost use Rattle.steps.specs.Shift.{heightOf, shiftLegs};
+ghost use Rattle.steps.specs.Marks.{markAfter, stepped};
 ghost use Rattle.steps.specs.How.{atOnce, swing, raised, legAt};
 ghost use Rattle.steps.specs.Next.{nextStep, byTime, timedAt, evenAt};
 
@@ -144,7 +147,13 @@ fn height_rlr(lift: Lift) -> f32
 }
 
 // All six legs follow the one rule; the three that stand use the descent as height.
-pub fn shift_legs(start: Feet, last: Feet, target: Feet, lift: Lift, progress: f32) -> FeetStep
+pub fn shift_legs(
+    start: Points,
+    last: Points,
+    target: Points,
+    lift: Lift,
+    progress: f32,
+) -> PointsStep
     ensures { λ r. ⌜ r ≡ shiftLegs start last target lift progress ⌝ }
 {
     let now = at_once(lift.aggressive_leg_lift, progress);
@@ -172,15 +181,57 @@ pub fn shift_legs(start: Feet, last: Feet, target: Feet, lift: Lift, progress: f
     )
 }
 
+// Whether a foot is lifted after a step, which it had made or not: one of the lifted tripod that moved is, unless it came to its target;
+// any other keeps its mark. Last and target are looked at for their points.
+fn mark_after(in_tripod: bool, last: Foot, target: Foot, new: Point) -> bool
+    ensures { λ r. ⌜ r ≡ markAfter «in_tripod» (last .lifted) (last .point) (target .point) new ⌝ }
+{
+    if in_tripod & !moves::core::is_same(last.point, target.point) {
+        !moves::core::is_same(new, target.point)
+    } else {
+        last.lifted
+    }
+}
+
+// A foot after a step.
+fn foot_after(in_tripod: bool, last: Foot, target: Foot, new: Point) -> Foot
+    ensures { λ r. ⌜ r ≡ record { point = new; lifted = markAfter «in_tripod» (last .lifted) (last .point) (target .point) new } ⌝ }
+{
+    legs::core::foot_at(new, mark_after(in_tripod, last, target, new))
+}
+
+// Six feet after a step that brought them to these points.
+fn stepped(tripod: Tripod, last: Feet, target: Feet, new: Points) -> Feet
+    ensures { λ r. ⌜ r ≡ stepped tripod last target new ⌝ }
+{
+    let lrl = commands::core::is_lrl(tripod);
+    Feet {
+        left_front: foot_after(lrl, last.left_front, target.left_front, new.left_front),
+        left_middle: foot_after(!lrl, last.left_middle, target.left_middle, new.left_middle),
+        left_rear: foot_after(lrl, last.left_rear, target.left_rear, new.left_rear),
+        right_front: foot_after(!lrl, last.right_front, target.right_front, new.right_front),
+        right_middle: foot_after(
+            lrl,
+            last.right_middle,
+            target.right_middle,
+            new.right_middle,
+        ),
+        right_rear: foot_after(!lrl, last.right_rear, target.right_rear, new.right_rear),
+    }
+}
+
 // One step more by distance. The source's descent is 0.
 pub fn next_step(s: StepIterator) -> NextStep
     ensures { λ r. ⌜ r ≡ nextStep s ⌝ }
 {
-    let full = moves::core::max_horizontal_distance(s.start, s.target);
+    let start = legs::core::points_of(s.start);
+    let last = legs::core::points_of(s.last);
+    let target = legs::core::points_of(s.target);
+    let full = moves::core::max_horizontal_distance(start, target);
     if full == 0.0 {
         return NextStep::NoStep;
     }
-    let gone = moves::core::max_horizontal_distance(s.last, s.start);
+    let gone = moves::core::max_horizontal_distance(last, start);
     let tripod = s.tripod;
     let lift = Lift {
         step_height: s.step_height,
@@ -188,30 +239,26 @@ pub fn next_step(s: StepIterator) -> NextStep
         tripod: tripod,
         aggressive_leg_lift: s.aggressive_leg_lift,
     };
-    let step = shift_legs(
-        s.start,
-        s.last,
-        s.target,
-        lift,
-        step_progress(gone, s.max_move, full),
-    );
+    let part = step_progress(gone, s.max_move, full);
+    let step = shift_legs(start, last, target, lift, part);
     match step {
-        FeetStep::Moved(feet) => {
+        PointsStep::Moved(points) => {
+            let feet = stepped(tripod, s.last, s.target, points);
             let mut after = s;
             after.last = feet;
             NextStep::Step(feet, after)
         }
-        FeetStep::Arrived(_) => NextStep::NoStep,
+        PointsStep::Arrived(_) => NextStep::NoStep,
     }
 }
 
-// The feet of a timed step; where the longest horizontal distance is 0 none moves.
-fn by_time(start: Feet, last: Feet, target: Feet, lift: Lift, progress: f32) -> FeetStep
+// The points of a timed step; where the longest horizontal distance is 0 none moves.
+fn by_time(start: Points, last: Points, target: Points, lift: Lift, progress: f32) -> PointsStep
     ensures { λ r. ⌜ r ≡ byTime start last target lift progress ⌝ }
 {
     let full = moves::core::max_horizontal_distance(start, target);
     if full <= 0.0 {
-        FeetStep::Arrived(last)
+        PointsStep::Arrived(last)
     } else {
         shift_legs(start, last, target, lift, progress)
     }
@@ -221,14 +268,20 @@ fn by_time(start: Feet, last: Feet, target: Feet, lift: Lift, progress: f32) -> 
 pub fn next_timed(s: TimedStepIterator, progress: f32) -> NextTimed
     ensures { λ r. ⌜ r ≡ timedAt s progress ⌝ }
 {
-    let step = by_time(s.start, s.last, s.target, s.lift, progress);
+    let start = legs::core::points_of(s.start);
+    let last = legs::core::points_of(s.last);
+    let target = legs::core::points_of(s.target);
+    let lift = s.lift;
+    let tripod = lift.tripod;
+    let step = by_time(start, last, target, lift, progress);
     match step {
-        FeetStep::Moved(feet) => {
+        PointsStep::Moved(points) => {
+            let feet = stepped(tripod, s.last, s.target, points);
             let mut after = s;
             after.last = feet;
             NextTimed::Step(feet, after)
         }
-        FeetStep::Arrived(_) => NextTimed::NoStep,
+        PointsStep::Arrived(_) => NextTimed::NoStep,
     }
 }
 
@@ -236,14 +289,20 @@ pub fn next_timed(s: TimedStepIterator, progress: f32) -> NextTimed
 pub fn next_even(s: EvenStepIterator, progress: f32) -> NextEven
     ensures { λ r. ⌜ r ≡ evenAt s progress ⌝ }
 {
-    let step = shift_legs(s.start, s.last, s.target, s.lift, progress);
+    let start = legs::core::points_of(s.start);
+    let last = legs::core::points_of(s.last);
+    let target = legs::core::points_of(s.target);
+    let lift = s.lift;
+    let tripod = lift.tripod;
+    let step = shift_legs(start, last, target, lift, progress);
     match step {
-        FeetStep::Moved(feet) => {
+        PointsStep::Moved(points) => {
+            let feet = stepped(tripod, s.last, s.target, points);
             let mut after = s;
             after.last = feet;
             NextEven::Step(feet, after)
         }
-        FeetStep::Arrived(_) => NextEven::NoStep,
+        PointsStep::Arrived(_) => NextEven::NoStep,
     }
 }
 

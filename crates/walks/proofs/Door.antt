@@ -13,7 +13,7 @@ use Rattle.numbers.specs.Limits.{walkFoot, walkMove}
 use Rattle.units.specs.Units.{unity, hi}
 use Rattle.units.proofs.Door.{finite-single, permitted-mag, permitted-parts, permitted-above, permits-mag, permits-above}
 use Rattle.units.proofs.Table.{walk-foot-ends, walk-move-ends}
-use Rattle.legs.specs.Legs.{Leg, leftFront, foot}
+use Rattle.legs.specs.Legs.{Leg, leftFront, points, foot}
 use Rattle.legs.specs.Legs.{finitePoint, permittedPoint, finiteFeet, permittedFeet}
 use Rattle.legs.proofs.Laws.{each-of-every, every-of-each}
 use Rattle.legs.specs.declared.Point.{Point}
@@ -79,7 +79,7 @@ module _ (m : Float) (s t : Point) (Fm : Fit m) (Fs : Each Fit s) (Ft : Each Fit
 
 -- ---- six feet
 module _ (m : Float) (s t : Feet) (Fm : Fit m) (Fs : (l : Leg) → Each Fit (foot s l)) (Ft : (l : Leg) → Each Fit (foot t l)) where
-  pub let-feet-in : walkFeetRefusal m s t ≡ 0 → ReachFeet m s t
+  pub let-feet-in : walkFeetRefusal m s t ≡ 0 → ReachFeet m (points s) (points t)
   unfolding walkFeetRefusal
   let-feet-in e l =
       let p = passed finiteFeet (permittedFeet walkFoot) walkMove s t m e in
@@ -91,7 +91,7 @@ module _ (m : Float) (s t : Feet) (Fm : Fit m) (Fs : (l : Leg) → Each Fit (foo
       (p .finite-move) (finite-one s (p .finite-last)) (finite-one t (p .finite-target))
       (p .move) (permitted-one s (p .last)) (permitted-one t (p .target))
 
-  pub feet-within-reach : ReachFeet m s t → walkFeetRefusal m s t ≡ 0
+  pub feet-within-reach : ReachFeet m (points s) (points t) → walkFeetRefusal m s t ≡ 0
   feet-within-reach r =
       let one = r leftFront in
       sym (walk-feet-taken m s t

@@ -7,9 +7,9 @@ use Prim.Native.Nat.{ℕ, zero, suc, _+_, _≤_, _<_}
 use native.Mathlib.Nat.{le-refl, le-trans, le-of-eq}
 use native.Mathlib.Omega.{arith}
 use lib.Ieee.{Float}
-use Rattle.legs.specs.Legs.{Leg, row, foot}
+use Rattle.legs.specs.Legs.{Leg, row, point}
 use Rattle.legs.specs.declared.Point.{Point}
-use Rattle.legs.specs.declared.Feet.{Feet}
+use Rattle.legs.specs.declared.Points.{Points}
 use Rattle.moves.specs.Distance.{Each, same, distance}
 use Rattle.moves.specs.Moving.{nearer}
 use Rattle.moves.proofs.Steps.{stands, moves}
@@ -53,11 +53,11 @@ module _ (m : Float) (s t : Point) where
   let-in-ends Fm Fs Ft e = ends Fm Fs Ft (let-in m s t Fm Fs Ft e)
 
 -- ---- six feet
-module _ (m : Float) (s t : Feet) where
-  pub feet-end : Fit m → ((l : Leg) → Each Fit (foot s l)) → ((l : Leg) → Each Fit (foot t l)) → ReachFeet m s t
+module _ (m : Float) (s t : Points) where
+  pub feet-end : Fit m → ((l : Leg) → Each Fit (point s l)) → ((l : Leg) → Each Fit (point t l)) → ReachFeet m s t
       → (k : ℕ) × WalkFeet m s t k × (k ≤ 147457)
   feet-end Fm Fs Ft r =
-      let e : (l : Leg) → Ended m (foot s l) (foot t l) = λ l. ends m (foot s l) (foot t l) Fm (Fs l) (Ft l) (r l) in
+      let e : (l : Leg) → Ended m (point s l) (point t l) = λ l. ends m (point s l) (point t l) Fm (Fs l) (Ft l) (r l) in
       let g : Leg → ℕ = λ l. e l .0 in
       let o = one-largest g in
       (largest (row g), walk-of-six m s t g (λ l. e l .1), le-trans (le-of-eq (o .1)) (e (o .0) .2))

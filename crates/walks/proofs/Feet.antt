@@ -11,22 +11,22 @@ use lib.Ieee.{Float, nan, inf, fin, up, down, eq}
 use lib.Ieee.Fits.{and-i, and-l, and-r}
 use lib.Ieee.Bits.{is-true}
 use Rattle.numbers.specs.Told.{choose}
-use Rattle.legs.specs.Legs.{Leg, leftFront, rightFront, leftMiddle, rightMiddle, leftRear, rightRear, row, foot, every}
+use Rattle.legs.specs.Legs.{Leg, leftFront, rightFront, leftMiddle, rightMiddle, leftRear, rightRear, row, point, every}
 use Rattle.legs.specs.declared.Point.{Point}
-use Rattle.legs.specs.declared.Feet.{Feet}
+use Rattle.legs.specs.declared.Points.{Points}
 use Rattle.moves.specs.Distance.{same}
 use Rattle.moves.specs.Moving.{moveTowards, pointOf}
 use Rattle.moves.proofs.Steps.{stands}
 use Rattle.moves.proofs.FootByFoot.{each-foot}
-use Rattle.walks.specs.Walk.{pointAfter, feetAfter, Walk, WalkFeet, larger, largest, allArrived}
+use Rattle.walks.specs.Walk.{pointAfter, pointsAfter, Walk, WalkFeet, larger, largest, allArrived}
 use Rattle.legs.proofs.Laws.{each-of-every, every-of-each}
 
 -- ---- each foot's way is its own
-pub each-foot-after : (m : Float) (s t : Feet) (k : ℕ) (l : Leg) → foot (feetAfter m s t k) l ≡ pointAfter m (foot s l) (foot t l) k
-unfolding feetAfter pointAfter
+pub each-foot-after : (m : Float) (s t : Points) (k : ℕ) (l : Leg) → point (pointsAfter m s t k) l ≡ pointAfter m (point s l) (point t l) k
+unfolding pointsAfter pointAfter
 each-foot-after m s t zero l = refl
 each-foot-after m s t (suc k) l =
-    each-foot (feetAfter m s t k) t m l ∙ ap (λ (p : Point). pointOf (moveTowards p (foot t l) m)) (each-foot-after m s t k l)
+    each-foot (pointsAfter m s t k) t m l ∙ ap (λ (p : Point). pointOf (moveTowards p (point t l) m)) (each-foot-after m s t k l)
 
 -- ---- what is equal to something is equal to itself
 eq-self : (x y : Float) → T (eq x y) → T (eq y y)
@@ -124,25 +124,25 @@ module _ (g : Leg → ℕ) where
       (or-else two (g leftMiddle) leftMiddle refl
       (or-else (g leftFront) (g rightFront) rightFront refl (leftFront, refl)))))
 
-module _ (m : Float) (s t : Feet) where
-  at-foot : (k : ℕ) (l : Leg) → same (foot (feetAfter m s t k) l) (foot t l) ≡ same (pointAfter m (foot s l) (foot t l) k) (foot t l)
-  at-foot k l = ap (λ (p : Point). same p (foot t l)) (each-foot-after m s t k l)
+module _ (m : Float) (s t : Points) where
+  at-foot : (k : ℕ) (l : Leg) → same (point (pointsAfter m s t k) l) (point t l) ≡ same (pointAfter m (point s l) (point t l) k) (point t l)
+  at-foot k l = ap (λ (p : Point). same p (point t l)) (each-foot-after m s t k l)
 
   -- six walks, with their counts, are the walk of six feet
-  pub walk-of-six : (g : Leg → ℕ) → ((l : Leg) → Walk m (foot s l) (foot t l) (g l)) → WalkFeet m s t (largest (row g))
+  pub walk-of-six : (g : Leg → ℕ) → ((l : Leg) → Walk m (point s l) (point t l) (g l)) → WalkFeet m s t (largest (row g))
   unfolding allArrived
   walk-of-six g w = record {
     counts = g;
     walks = w;
     most = refl;
-    arrives = every-of-each (λ l. same (foot (feetAfter m s t (largest (row g))) l) (foot t l))
+    arrives = every-of-each (λ l. same (point (pointsAfter m s t (largest (row g))) l) (point t l))
         (λ l. subst T (sym (at-foot (largest (row g)) l))
-        (still-there m (foot s l) (foot t l) (g l) (largest (row g)) (none-larger g l) (w l .arrives)));
+        (still-there m (point s l) (point t l) (g l) (largest (row g)) (none-larger g l) (w l .arrives)));
     least = λ j h.
         let o = one-largest g in
         let l = o .0 in
         let short : j < g l = lt-of-lt-of-le h (le-of-eq (o .1)) in
-        not-T (every (λ k. same (foot (feetAfter m s t j) k) (foot t k)))
-        (λ a. T-not (same (pointAfter m (foot s l) (foot t l) j) (foot t l)) (w l .least j short)
-        (subst T (at-foot j l) (each-of-every (λ k. same (foot (feetAfter m s t j) k) (foot t k)) a l)));
+        not-T (every (λ k. same (point (pointsAfter m s t j) k) (point t k)))
+        (λ a. T-not (same (pointAfter m (point s l) (point t l) j) (point t l)) (w l .least j short)
+        (subst T (at-foot j l) (each-of-every (λ k. same (point (pointsAfter m s t j) k) (point t k)) a l)));
   }

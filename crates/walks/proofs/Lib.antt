@@ -17,6 +17,7 @@ pub mod Loop
 mod OnePass
 pub mod Door
 pub mod Feet
+pub mod Marks
 pub mod Table
 pub mod OneAnswer
 pub mod Trail

@@ -10,6 +10,8 @@ use lib.Dec.{T, T-not}
 use lib.Ieee.{Float}
 use Rattle.numbers.specs.Told.{Told, given, refused, answer}
 use Rattle.legs.specs.declared.Point.{Point}
+use Rattle.legs.specs.Legs.{points}
+use Rattle.legs.specs.declared.Points.{Points}
 use Rattle.legs.specs.declared.Feet.{Feet}
 use Rattle.moves.specs.Distance.{same}
 use Rattle.walks.specs.Walk.{pointAfter, Walk, WalkFeet, allArrived}
@@ -29,7 +31,7 @@ least-is-one there k j a f b g =
 pub one-count : (m : Float) (s t : Point) (k j : ℕ) → Walk m s t k → Walk m s t j → k ≡ j
 one-count m s t k j a b = least-is-one (λ i. same (pointAfter m s t i) t) k j (a .arrives) (a .least) (b .arrives) (b .least)
 
-pub one-count-of-feet : (m : Float) (s t : Feet) (k j : ℕ) → WalkFeet m s t k → WalkFeet m s t j → k ≡ j
+pub one-count-of-feet : (m : Float) (s t : Points) (k j : ℕ) → WalkFeet m s t k → WalkFeet m s t j → k ≡ j
 one-count-of-feet m s t k j a b = least-is-one (allArrived m s t) k j (a .arrives) (a .least) (b .arrives) (b .least)
 
 -- ---- the answers
@@ -54,7 +56,9 @@ module _ (m : Float) (a b : Walked) where
       → Counts (walkRefusal m s t) (Walk m s t) (told b) → a ≡ b
   walk-settled s t x y = told-loses-nothing a b (one-told (walkRefusal m s t) (Walk m s t) (one-count m s t) (told a) (told b) x y)
 
-  pub walk-feet-settled : (s t : Feet) → Counts (walkFeetRefusal m s t) (WalkFeet m s t) (told a)
-      → Counts (walkFeetRefusal m s t) (WalkFeet m s t) (told b) → a ≡ b
+  pub walk-feet-settled : (s t : Feet) → Counts (walkFeetRefusal m s t) (WalkFeet m (points s) (points t)) (told a)
+      → Counts (walkFeetRefusal m s t) (WalkFeet m (points s) (points t)) (told b) → a ≡ b
   walk-feet-settled s t x y =
-      told-loses-nothing a b (one-told (walkFeetRefusal m s t) (WalkFeet m s t) (one-count-of-feet m s t) (told a) (told b) x y)
+      told-loses-nothing a b
+      (one-told (walkFeetRefusal m s t) (WalkFeet m (points s) (points t)) (one-count-of-feet m (points s) (points t))
+      (told a) (told b) x y)

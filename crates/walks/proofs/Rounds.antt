@@ -10,34 +10,34 @@ use lib.Dec.{T, T-not}
 use lib.Ieee.{Float}
 use lib.Ieee.Bits.{is-true}
 use Rattle.units.proofs.Door.{holds}
-use Rattle.legs.specs.Legs.{Leg, leftFront, rightFront, leftMiddle, rightMiddle, leftRear, rightRear, foot, every}
+use Rattle.legs.specs.Legs.{Leg, leftFront, rightFront, leftMiddle, rightMiddle, leftRear, rightRear, point, every}
 use Rattle.legs.specs.declared.Point.{Point}
-use Rattle.legs.specs.declared.Feet.{Feet}
+use Rattle.legs.specs.declared.Points.{Points}
 use Rattle.moves.specs.Distance.{same}
 use Rattle.moves.specs.Moving.{moveTowards, pointOf}
 use Rattle.moves.proofs.FootByFoot.{each-foot}
-use Rattle.walks.specs.Walk.{feetAfter, WalkFeet, allArrived}
+use Rattle.walks.specs.Walk.{pointsAfter, WalkFeet, allArrived}
 
-module _ (m : Float) (s t : Feet) where
+module _ (m : Float) (s t : Points) where
   -- after c rounds the feet are at l
-  pub record Walking (l : Feet) (c : ℕ) : Type 0 where
+  pub record Walking (l : Points) (c : ℕ) : Type 0 where
     pub total : ℕ
     pub walk : WalkFeet m s t total
     pub few : total ≤ 147457
-    pub here : (f : Leg) → foot l f ≡ foot (feetAfter m s t c) f
+    pub here : (f : Leg) → point l f ≡ point (pointsAfter m s t c) f
     pub within : c ≤ total
 
-  abbrev Arrived : Feet → Bool
-  Arrived l = every (λ f. same (foot l f) (foot t f))
+  abbrev Arrived : Points → Bool
+  Arrived l = every (λ f. same (point l f) (point t f))
 
   pub walking-start : (k : ℕ) × WalkFeet m s t k × (k ≤ 147457) → Walking s 0
-  unfolding feetAfter
+  unfolding pointsAfter
   walking-start e = record { total = e .0; walk = e .1; few = e .2; here = λ f. refl; within = zero-le }
 
-  module _ (l : Feet) (c : ℕ) (w : Walking l c) where
+  module _ (l : Points) (c : ℕ) (w : Walking l c) where
     arrival : Arrived l ≡ allArrived m s t c
     unfolding allArrived
-    arrival = ap every (fun-ext (λ f. ap (λ (p : Point). same p (foot t f)) (w .here f)))
+    arrival = ap every (fun-ext (λ f. ap (λ (p : Point). same p (point t f)) (w .here f)))
 
     -- where not all have arrived, a round is to come
     one-more : Arrived l ≡ false → c < w .total
@@ -51,17 +51,17 @@ module _ (m : Float) (s t : Feet) where
     pub walking-few : Arrived l ≡ false → c < 147457
     walking-few e = lt-of-lt-of-le (one-more e) (w .few)
 
-    on : Arrived l ≡ false → (p : Feet) → ((f : Leg) → foot p f ≡ pointOf (moveTowards (foot l f) (foot t f) m)) → Walking p (c + 1)
-    unfolding feetAfter
+    on : Arrived l ≡ false → (p : Points) → ((f : Leg) → point p f ≡ pointOf (moveTowards (point l f) (point t f) m)) → Walking p (c + 1)
+    unfolding pointsAfter
     on e p h = record {
       total = w .total;
       walk = w .walk;
       few = w .few;
       here = λ f.
           h f
-          ∙ ap (λ (q : Point). pointOf (moveTowards q (foot t f) m)) (w .here f)
-          ∙ sym (each-foot (feetAfter m s t c) t m f)
-          ∙ ap (λ (k : ℕ). foot (feetAfter m s t k) f) (sym (add-one c));
+          ∙ ap (λ (q : Point). pointOf (moveTowards q (point t f) m)) (w .here f)
+          ∙ sym (each-foot (pointsAfter m s t c) t m f)
+          ∙ ap (λ (k : ℕ). point (pointsAfter m s t k) f) (sym (add-one c));
       within = next (one-more e);
     }
       where
@@ -70,21 +70,21 @@ module _ (m : Float) (s t : Feet) where
 
     -- a round, foot by foot
     pub walking-on : Arrived l ≡ false → (lf lm lr rf rm rr : Point)
-        → lf ≡ pointOf (moveTowards (foot l leftFront) (foot t leftFront) m)
-        → lm ≡ pointOf (moveTowards (foot l leftMiddle) (foot t leftMiddle) m)
-        → lr ≡ pointOf (moveTowards (foot l leftRear) (foot t leftRear) m)
-        → rf ≡ pointOf (moveTowards (foot l rightFront) (foot t rightFront) m)
-        → rm ≡ pointOf (moveTowards (foot l rightMiddle) (foot t rightMiddle) m)
-        → rr ≡ pointOf (moveTowards (foot l rightRear) (foot t rightRear) m)
+        → lf ≡ pointOf (moveTowards (point l leftFront) (point t leftFront) m)
+        → lm ≡ pointOf (moveTowards (point l leftMiddle) (point t leftMiddle) m)
+        → lr ≡ pointOf (moveTowards (point l leftRear) (point t leftRear) m)
+        → rf ≡ pointOf (moveTowards (point l rightFront) (point t rightFront) m)
+        → rm ≡ pointOf (moveTowards (point l rightMiddle) (point t rightMiddle) m)
+        → rr ≡ pointOf (moveTowards (point l rightRear) (point t rightRear) m)
         → Walking
         (record { «left_front» = lf; «left_middle» = lm; «left_rear» = lr; «right_front» = rf; «right_middle» = rm; «right_rear» = rr })
         (c + 1)
     walking-on e lf lm lr rf rm rr elf elm elr erf erm err = on e p steps
       where
-        p : Feet
+        p : Points
         p = record { «left_front» = lf; «left_middle» = lm; «left_rear» = lr; «right_front» = rf; «right_middle» = rm; «right_rear» = rr }
 
-        steps : (f : Leg) → foot p f ≡ pointOf (moveTowards (foot l f) (foot t f) m)
+        steps : (f : Leg) → point p f ≡ pointOf (moveTowards (point l f) (point t f) m)
         steps leftFront = elf
         steps leftMiddle = elm
         steps leftRear = elr

@@ -22,7 +22,7 @@ use Rattle.walks.proofs.Keeps.{Below}
 use Rattle.walks.proofs.Door.{let-in, let-feet-in}
 use Rattle.walks.proofs.Trail.{never-farther, stays-x, stays-y, stays-z}
 use Rattle.walks.proofs.Settled.{Settled, SettledPoint, settled}
-use Rattle.walks.proofs.Feet.{each-foot-after}
+use Rattle.walks.proofs.Marks.{foot-after}
 
 -- 2 ^ -24 m, in units
 abbrev pub sharp : ℕ
@@ -108,9 +108,9 @@ pub no-foot-swings : (m : Float) (s t : Feet) → Fit m → ((l : Leg) → Each 
     → walkFeetRefusal m s t ≡ 0
     → (k : ℕ) (l : Leg) → TamePoint (foot s l) (foot t l) (foot (feetAfter m s t k) l) (foot (feetAfter m s t (suc k)) l)
 no-foot-swings m s t Fm Fs Ft e k l =
-    subst (λ (p : Point). TamePoint (foot s l) (foot t l) p (foot (feetAfter m s t (suc k)) l)) (sym (each-foot-after m s t k l))
+    subst (λ (p : Point). TamePoint (foot s l) (foot t l) p (foot (feetAfter m s t (suc k)) l)) (sym (foot-after m s t k l))
     (subst (λ (p : Point). TamePoint (foot s l) (foot t l) (pointAfter m (foot s l) (foot t l) k) p)
-    (sym (each-foot-after m s t (suc k) l))
+    (sym (foot-after m s t (suc k) l))
     (tame-step m (foot s l) (foot t l) Fm (Fs l) (Ft l) (let-feet-in m s t Fm Fs Ft e l) k))
 
 -- and sharper

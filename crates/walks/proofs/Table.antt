@@ -4,7 +4,7 @@ use Prim.Native.Nat.{ℕ, _≤_}
 use native.Mathlib.Nat.{le-trans, le-of-eq}
 use lib.Ieee.{Float}
 use Rattle.units.specs.Units.{mag}
-use Rattle.legs.specs.Legs.{Leg, foot}
+use Rattle.legs.specs.Legs.{Leg, points, foot}
 use Rattle.legs.specs.declared.Point.{Point}
 use Rattle.legs.specs.declared.Feet.{Feet}
 use Rattle.moves.specs.Distance.{Each}
@@ -26,7 +26,7 @@ pub at-most-147457 : (m : Float) (s t : Point) → Fit m → Each Fit s → Each
 at-most-147457 m s t Fm Fs Ft e = at-most m s t Fm Fs Ft (let-in m s t Fm Fs Ft e)
 
 pub feet-at-most-147457 : (m : Float) (s t : Feet) → Fit m → ((l : Leg) → Each Fit (foot s l)) → ((l : Leg) → Each Fit (foot t l))
-    → walkFeetRefusal m s t ≡ 0 → (k : ℕ) → WalkFeet m s t k → k ≤ 147457
+    → walkFeetRefusal m s t ≡ 0 → (k : ℕ) → WalkFeet m (points s) (points t) k → k ≤ 147457
 feet-at-most-147457 m s t Fm Fs Ft e k w =
     let o = one-largest (w .counts) in
     let l = o .0 in

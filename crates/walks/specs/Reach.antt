@@ -5,9 +5,9 @@ use lib.Dec.{T}
 use lib.Ieee.{Float}
 use Rattle.numbers.specs.Door.{finite}
 use Rattle.units.specs.Units.{unity, hi, mag}
-use Rattle.legs.specs.Legs.{Leg, foot}
+use Rattle.legs.specs.Legs.{Leg, point}
 use Rattle.legs.specs.declared.Point.{Point}
-use Rattle.legs.specs.declared.Feet.{Feet}
+use Rattle.legs.specs.declared.Points.{Points}
 use Rattle.moves.specs.Distance.{Each}
 
 -- finite, and at most k units in magnitude
@@ -21,5 +21,5 @@ pub record Reach (m : Float) (s t : Point) : Type 0 where
   pub from : 2 ^ 137 ≤ hi m
   pub to : hi m ≤ unity
 
-abbrev pub ReachFeet : Float → Feet → Feet → Type 0
-ReachFeet m s t = (l : Leg) → Reach m (foot s l) (foot t l)
+abbrev pub ReachFeet : Float → Points → Points → Type 0
+ReachFeet m s t = (l : Leg) → Reach m (point s l) (point t l)

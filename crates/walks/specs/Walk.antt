@@ -8,17 +8,23 @@ use lib.Dec.{T, ltb}
 use lib.Ieee.{Float}
 use Rattle.numbers.specs.Told.{choose}
 use Rattle.units.specs.Units.{apart, mag}
-use Rattle.legs.specs.Legs.{Leg, row, foot, every}
+use Rattle.legs.specs.Legs.{Leg, row, point, every}
 use Rattle.legs.specs.declared.Point.{Point}
+use Rattle.legs.specs.declared.Points.{Points}
 use Rattle.legs.specs.declared.Feet.{Feet}
 use Rattle.moves.specs.Distance.{same}
-use Rattle.moves.specs.Moving.{moveTowards, pointOf, moveFeetTowards, feetOf}
+use Rattle.moves.specs.Moving.{moveTowards, pointOf, movePointsTowards, pointsOf, moveFeetTowards, feetOf}
 
 -- where the walk of max move m from s to t is after so many steps
 unfoldable pub pointAfter : Float → Point → Point → ℕ → Point
 pointAfter m s t zero = s
 pointAfter m s t (suc k) = pointOf (moveTowards (pointAfter m s t k) t m)
 
+unfoldable pub pointsAfter : Float → Points → Points → ℕ → Points
+pointsAfter m s t zero = s
+pointsAfter m s t (suc k) = pointsOf (movePointsTowards (pointsAfter m s t k) t m)
+
+-- the same of feet, which keep their marks on the way (request K12; proofs/Marks)
 unfoldable pub feetAfter : Float → Feet → Feet → ℕ → Feet
 feetAfter m s t zero = s
 feetAfter m s t (suc k) = feetOf (moveFeetTowards (feetAfter m s t k) t m)
@@ -46,13 +52,14 @@ largest [] = 0
 largest (a ∷ as') = largestFrom a as'
 
 -- whether every foot is at its target after k steps of the six
-unfoldable pub allArrived : Float → Feet → Feet → ℕ → Bool
-allArrived m s t k = every (λ l. same (foot (feetAfter m s t k) l) (foot t l))
+unfoldable pub allArrived : Float → Points → Points → ℕ → Bool
+allArrived m s t k = every (λ l. same (point (pointsAfter m s t k) l) (point t l))
 
--- six feet: the count is the largest of the six feet's own; after so many steps every foot has arrived, after fewer not every one
-pub record WalkFeet (m : Float) (s t : Feet) (k : ℕ) : Type 0 where
+-- six feet, by their points: the count is the largest of the six feet's own; after so many steps every foot has arrived, after fewer
+-- not every one
+pub record WalkFeet (m : Float) (s t : Points) (k : ℕ) : Type 0 where
   pub counts : Leg → ℕ
-  pub walks : (l : Leg) → Walk m (foot s l) (foot t l) (counts l)
+  pub walks : (l : Leg) → Walk m (point s l) (point t l) (counts l)
   pub most : k ≡ largest (row counts)
   pub arrives : T (allArrived m s t k)
   pub least : (j : ℕ) → j < k → T (not (allArrived m s t j))

@@ -1,8 +1,8 @@
 // The walks behind the door. They ask for numbers within reach, since from others a walk may never end.
-use legs::Feet;
 use legs::Point;
+use legs::Points;
 ghost use mathlib.Core.Path.{_≡_};
-ghost use Rattle.legs.specs.Legs.{foot, every};
+ghost use Rattle.legs.specs.Legs.{point, every};
 ghost use Rattle.moves.specs.Distance.{same};
 ghost use Rattle.moves.specs.Moving.{moveTowards, pointOf};
 ghost use Rattle.walks.specs.Walk.{Walk, WalkFeet};
@@ -38,8 +38,8 @@ fn onward(last: Point, target: Point, max_move: f32) -> Point
 }
 
 // Whether every foot is at its target.
-fn all_arrived(last: Feet, target: Feet) -> bool
-    ensures { λ r. ⌜ r ≡ every (λ l. same (foot last l) (foot target l)) ⌝ }
+fn all_arrived(last: Points, target: Points) -> bool
+    ensures { λ r. ⌜ r ≡ every (λ l. same (point last l) (point target l)) ⌝ }
 {
     moves::core::is_same(last.left_front, target.left_front)
         & moves::core::is_same(last.right_front, target.right_front)
@@ -50,7 +50,7 @@ fn all_arrived(last: Feet, target: Feet) -> bool
 }
 
 // Six feet walk in rounds of a step each, so that the machine can take their six roots at once.
-pub fn walk_feet(max_move: f32, start: Feet, target: Feet) -> u32
+pub fn walk_feet(max_move: f32, start: Points, target: Points) -> u32
     requires { ⌜ ReachFeet «max_move» start target ⌝ }
     ensures { λ k. ⌜ WalkFeet «max_move» start target k ⌝ }
 {
@@ -60,7 +60,7 @@ pub fn walk_feet(max_move: f32, start: Feet, target: Feet) -> u32
         if all_arrived(last, target) {
             return rounds;
         }
-        last = Feet {
+        last = Points {
             left_front: onward(last.left_front, target.left_front, max_move),
             left_middle: onward(last.left_middle, target.left_middle, max_move),
             left_rear: onward(last.left_rear, target.left_rear, max_move),

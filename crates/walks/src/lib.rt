@@ -4,6 +4,7 @@ use legs::Feet;
 use legs::Point;
 use numbers::door;
 ghost use mathlib.Core.Path.{_≡_};
+ghost use Rattle.legs.specs.Legs.{points};
 ghost use Rattle.walks.specs.Walk.{Walk, WalkFeet};
 ghost use Rattle.walks.specs.Answers.{told, walkRefusal, walkFeetRefusal, Counts};
 
@@ -67,13 +68,15 @@ pub fn walk(max_move: f32, start: Point, target: Point) -> Walked
     }
 }
 
-// How many steps six feet make until every one is at its target.
+// How many steps six feet make until every one is at its target, by their points; each keeps its mark on the way.
 pub fn walk_feet(max_move: f32, start: Feet, target: Feet) -> Walked
-    ensures { λ r. ⌜ Counts (walkFeetRefusal «max_move» start target) (WalkFeet «max_move» start target) (told r) ⌝ }
+    ensures { λ r. ⌜ Counts (walkFeetRefusal «max_move» start target) (WalkFeet «max_move» (points start) (points target)) (told r) ⌝ }
 {
     let n = walk_feet_refused(max_move, start, target);
     if n == 0 {
-        Walked::Count(core::walk_feet(max_move, start, target))
+        let from = legs::core::points_of(start);
+        let to = legs::core::points_of(target);
+        Walked::Count(core::walk_feet(max_move, from, to))
     } else {
         Walked::Refused(n)
     }

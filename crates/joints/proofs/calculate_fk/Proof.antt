@@ -6,11 +6,18 @@ use Rattle.joints.proofs.calculate_fk.Tie as tie
 
 returns : tie.Need-returns
 unfolding fkTold
-returns c = simp (c .calculate-fk .ensures, ← c .before .before .fk-refused .ensures, eq-eqb _ 0 (c .before .if1 .taken))
+returns c =
+    let taken = c .before .before in
+    simp (
+      c .standing .ensures,
+      c .before .calculate-fk .ensures,
+      ← taken .before .fk-refused .ensures,
+      eq-eqb _ 0 (taken .if1 .taken),
+    )
 
 returns-2 : tie.Need-returns-2
 unfolding fkTold
 returns-2 c = simp (← c .before .fk-refused .ensures, ne-eqb _ 0 (c .if1 .left))
 
 pub calculate-fk-spec : {M : Type 1} → statement M
-calculate-fk-spec = tie.close (tie.spec (λ _ _. tt) (λ _ _. tt) returns returns-2)
+calculate-fk-spec = tie.close (tie.spec (λ _ _. tt) (λ _ _. tt) (λ _ _. tt) returns returns-2)

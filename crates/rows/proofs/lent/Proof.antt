@@ -51,11 +51,11 @@ use denote.Triple.Spec.{Meets, tripleOf}
 use denote.Triple.Statement.{Contract, Triple}
 use denote.Triple.Table.{entered, cited}
 use denote.Triple.Walked.{says, needs, Stays, stay-dropped, walkOf, AllGo, goes-dropped, Walks, ends-at, walked, walk-meets}
-use Rattle.legs.specs.declared.Point.{Point}
+use Rattle.legs.specs.declared.Foot.{Foot}
 use Rattle.legs.specs.declared.Feet.{Feet}
 use Rattle.legs.specs.declared.Planned.{Planned}
-use Rattle.legs.proofs.Point as T
-use Rattle.legs.proofs.Point.Laws as T′
+use Rattle.legs.proofs.Foot as T
+use Rattle.legs.proofs.Foot.Laws as T′
 use Rattle.legs.proofs.Feet as F
 use Rattle.legs.proofs.Feet.Laws as F′
 use Rattle.legs.proofs.Planned as E
@@ -74,20 +74,20 @@ use Rattle.rows.proofs.lent.Statement as stated
 use Rattle.rows.proofs.lent.Code as code
 use Rattle.rows.proofs.lent.Code.Mir as mm
 
--- F: the feet; T: a point; E: the answer
+-- F: the feet; T: a foot; E: the answer
 abbrev R : RattleType
 R = T.the-row
 
 abbrev stayed : Stays (f.ended .signature .params) (f.ended .kept)
 stayed = (stay-dropped _ yes, (stay-dropped _ yes, (stay-dropped _ yes, (stay-dropped _ yes, tt))))
 
-abbrev vals : Point → List Val
+abbrev vals : Foot → List Val
 vals = LL.vals T.the-type T′.the-laws
 
 abbrev val-feet : Feet → Val
 val-feet = LL.val F.the-type F′.the-laws
 
-abbrev val-array : List Point → Val
+abbrev val-array : List Foot → Val
 val-array xs = only (array-vals vals xs)
 
 abbrev τ : ℕ → Ty
@@ -98,8 +98,8 @@ module _ {M : Type 1} (𝓤 : URA M) (H : Heap 𝓤) (A : Atoms 𝓤) (mem : Mem
   Top = tripleOf 𝓤 H A top.signature (top.spec 𝓤 H A mem run)
 
 module _ {M : Type 1} (𝓤 : URA M) (H : Heap 𝓤) (A : Atoms 𝓤) (W : Given 𝓤 H A) (mem′ : Memory → SProp 𝓤)
-    (run : Routine → Fun 𝓤) (f′ : Feet) (xs : List Point) (n m : ℕ) where
-  abbrev ys : List Point
+    (run : Routine → Fun 𝓤) (f′ : Feet) (xs : List Foot) (n m : ℕ) where
+  abbrev ys : List Foot
   ys = take n xs
 
   abbrev at : Vals f.signature tt
@@ -128,7 +128,7 @@ module _ {M : Type 1} (𝓤 : URA M) (H : Heap 𝓤) (A : Atoms 𝓤) (W : Given
     room = let small : length ys ≤ 64 = omega (arith, len, few) in (omega (arith, small), omega (arith, small))
 
     module _ (b : ℕ) (α : ℕ) (γ : GName) where
-      abbrev sl : RefT (List Point)
+      abbrev sl : RefT (List Foot)
       sl = record { ptr = (b, 0); name = γ; now = ys }
 
       abbrev v : Val
@@ -181,7 +181,7 @@ module _ {M : Type 1} (𝓤 : URA M) (H : Heap 𝓤) (A : Atoms 𝓤) (W : Given
           move ! (4 ∷ []) $ use1 W (‵ (elements 𝓤 H A W R tt 64 xs l₅))
           (arr-in 𝓤 H A W R tt 64 xs l₅ (LL.makes T.the-type T′.the-plain 𝓤 H A) (val-array xs) px) $
           use1 W (‵ (parts (mem R) (shares R) fullShare ys l₅ 0)
-          ⊛ ‵ (parts (mem R) (shares R) fullShare (dropL n xs) l₅ (place 12 0 n)))
+          ⊛ ‵ (parts (mem R) (shares R) fullShare (dropL n xs) l₅ (place 16 0 n)))
           (cut 𝓤 H A W (shares R) fullShare l₅ n xs 0) $ split ! $ feqI ! ℕ (length ys) (length ys) refl $ fjoin ! $
           lft-new ! tt (λ α. move ! (1 ∷ []) $
           use1 W (later (some (λ (γ : GName). ‵ (Own l₅ α γ)

@@ -1,11 +1,11 @@
--- `rows::updated_from_first` meets its contract: the first n of 64 points, for n of 64 or more, are all of them.
+-- `rows::updated_from_first` meets its contract: the first n of 64 feet, for n of 64 or more, are all of them.
 use mathlib.Core.Path.{sym, ap, _∙_}
 use mathlib.Core.List.{List}
 use Prim.Native.Nat.{_≤_}
 use native.Mathlib.Omega.{arith}
 use lib.ListN.{length}
 use lib.Seq.{take-all}
-use Rattle.legs.specs.declared.Point.{Point}
+use Rattle.legs.specs.declared.Foot.{Foot}
 use Rattle.rows.specs.Rows.{updateTold}
 use borrow.Author.Needs.{needs}
 use Rattle.rows.proofs.updated_from_first.Statement.{statement}
@@ -26,7 +26,7 @@ returns-2 c =
     let fits : length (given .values) ≤ 64 = omega arith in
     let beyond : 64 ≤ given .n = omega (arith, c .before .if1 .left) in
     c .lent2 .ensures
-    ∙ ap (λ (ps : List Point). updateTold (given .feet) ps (given .mask))
+    ∙ ap (λ (ps : List Foot). updateTold (given .feet) ps (given .mask))
     (take-all 64 (given .values) fits ∙ sym (take-all (given .n) (given .values) (omega arith)))
 
 pub updated-from-first-spec : {M : Type 1} → statement M

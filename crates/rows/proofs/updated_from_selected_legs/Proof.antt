@@ -1,6 +1,6 @@
 -- `rows::updated_from_selected_legs` meets its contract: a walk of its MIR, by hand, with a loop. What is remembered of the
 -- row is a struct by value; each turn calls `noted` on it, and `answered`, after the loop, gives the answer.
--- The loop's variant is i with i ≤ length, and with what is known of the struct after the first i points: that its machine
+-- The loop's variant is i with i ≤ length, and with what is known of the struct after the first i feet: that its machine
 -- value is well typed (`Is`).
 -- All that the proof knows of `none`, `noted` and `answered` is that each meets its contract. What plain parameters own is
 -- made anew at the exit.
@@ -54,7 +54,7 @@ use denote.Triple.Spec.{Meets, tripleOf}
 use denote.Triple.Table.{entered, cited}
 use denote.Triple.Walked.{says, Stays, stay-dropped, walkOf, AllGo, goes-dropped, Walks, ends-at, walked, walk-meets}
 use denote.Exit.{yes}
-use Rattle.legs.specs.declared.Point.{Point}
+use Rattle.legs.specs.declared.Foot.{Foot}
 use Rattle.legs.specs.declared.Feet.{Feet}
 use Rattle.legs.specs.declared.Planned.{Planned}
 use Rattle.rows.specs.declared.seen.Seen.{Seen}
@@ -64,9 +64,9 @@ use Rattle.legs.proofs.Planned as E
 use Rattle.legs.proofs.Planned.Laws as E′
 use Rattle.rows.proofs.seen.Seen as G
 use Rattle.rows.proofs.seen.Seen.Laws as G′
-use Rattle.legs.proofs.Point as T
-use Rattle.legs.proofs.Point.Laws as T′
-use Rattle.legs.specs.Legs.{origin}
+use Rattle.legs.proofs.Foot as T
+use Rattle.legs.proofs.Foot.Laws as T′
+use Rattle.legs.specs.Legs.{unused}
 use Rattle.legs.specs.Answers.{told}
 use Rattle.rows.specs.Rows.{updateTold}
 use Rattle.rows.specs.How.{seenOf, noted as notedOf, seenTold}
@@ -91,7 +91,7 @@ use Rattle.rows.proofs.updated_from_selected_legs.Statement as stated
 use Rattle.rows.proofs.updated_from_selected_legs.Code as code
 use Rattle.rows.proofs.updated_from_selected_legs.Code.Mir as mm
 
--- F: the feet; T: a point; G: what is remembered; E: the answer
+-- F: the feet; T: a foot; G: what is remembered; E: the answer
 abbrev R : RattleType
 R = T.the-row
 
@@ -102,7 +102,7 @@ S = shrSliceOf (0 ∷ []) tt (plain (λ _. R))
 abbrev stayed : Stays (f.ended .signature .params) (f.ended .kept)
 stayed = (stay-dropped (plain (λ _. F.the-row)) yes, (stay-dropped S yes, (stay-dropped (plain (λ _. u32)) yes, tt)))
 
-abbrev vals : Point → List Val
+abbrev vals : Foot → List Val
 vals = LL.vals T.the-type T′.the-laws
 
 abbrev val-seen : Seen → Val
@@ -133,8 +133,8 @@ module _ {M : Type 1} (𝓤 : URA M) (H : Heap 𝓤) (A : Atoms 𝓤) (mem : Mem
   Answered = tripleOf 𝓤 H A answered.signature (answered.spec 𝓤 H A mem run)
 
 module _ {M : Type 1} (𝓤 : URA M) (H : Heap 𝓤) (A : Atoms 𝓤) (W : Given 𝓤 H A) (mem : Memory → SProp 𝓤)
-    (run : Routine → Fun 𝓤) (κ : Lft) (q : Share) (f′ : Feet) (s : RefT (List Point)) (m : ℕ) where
-  abbrev ys : List Point
+    (run : Routine → Fun 𝓤) (κ : Lft) (q : Share) (f′ : Feet) (s : RefT (List Foot)) (m : ℕ) where
+  abbrev ys : List Foot
   ys = s .now
 
   abbrev n : ℕ
@@ -149,10 +149,10 @@ module _ {M : Type 1} (𝓤 : URA M) (H : Heap 𝓤) (A : Atoms 𝓤) (W : Given
   abbrev v : Val
   v = sliceVal (s .ptr) n
 
-  abbrev elem : ℕ → Point
-  elem i = getD ys i origin
+  abbrev elem : ℕ → Foot
+  elem i = getD ys i unused
 
-  -- what is remembered of the first i points
+  -- what is remembered of the first i feet
   abbrev read : ℕ → Seen
   read i = seenOf (take i ys)
 
@@ -188,24 +188,24 @@ module _ {M : Type 1} (𝓤 : URA M) (H : Heap 𝓤) (A : Atoms 𝓤) (W : Given
   said-none r = exE 𝓤 _ (λ ws. snd∗ 𝓤 (sem 𝓤 H A (lasts none.ended tt tt ws)) (fact 𝓤 (r ≡ seenOf [])))
 
   -- a call of `noted`
-  abbrev to-noted : Seen → ℕ → Point → Noted 𝓤 H A mem run .Ghost
+  abbrev to-noted : Seen → ℕ → Foot → Noted 𝓤 H A mem run .Ghost
   to-noted r i x = ((tt, tt, tt, (r, (i, (x, tt))), (val-seen r ∷ [], (vint w64 i ∷ [], (vals x, tt)))), tt)
 
-  goes-noted : (r : Seen) (i : ℕ) (x : Point) → Is G.the-row r (val-seen r ∷ []) → i < 2 ^ 64 → Is R x (vals x)
+  goes-noted : (r : Seen) (i : ℕ) (x : Foot) → Is G.the-row r (val-seen r ∷ []) → i < 2 ^ 64 → Is R x (vals x)
       → ent 𝓤 (emp 𝓤) (Noted 𝓤 H A mem run .pre (to-noted r i x))
   goes-noted r i x gr gi gx =
       qed W [] ∵ nothing ! $ owned ! R (Is R) (LL.makes T.the-type T′.the-plain 𝓤 H A) x _ gx $ fjoin ! $
       owned ! usize (Is usize) (uint-makes 𝓤 H A W w64) i _ (refl, gi) $ fjoin ! $
       owned ! G.the-row (Is G.the-row) (LL.makes G.the-type G′.the-plain 𝓤 H A) r _ gr $ fjoin ! $ nothing ! $ join ! $ frame ! $ done !
 
-  abbrev said-noted-of : Seen → ℕ → Point → Seen → SProp 𝓤
+  abbrev said-noted-of : Seen → ℕ → Foot → Seen → SProp 𝓤
   said-noted-of g i x r = ensured 𝓤 H A noted.ended (noted.clauses 𝓤 H A mem run) tt (g, (i, (x, tt))) tt r
 
-  said-noted : (g : Seen) (i : ℕ) (x : Point) (r : Seen) → ent 𝓤 (said-noted-of g i x r) (fact 𝓤 (r ≡ notedOf g i x))
+  said-noted : (g : Seen) (i : ℕ) (x : Foot) (r : Seen) → ent 𝓤 (said-noted-of g i x r) (fact 𝓤 (r ≡ notedOf g i x))
   said-noted g i x r = exE 𝓤 _ (λ ws. snd∗ 𝓤 (sem 𝓤 H A (lasts noted.ended tt (g, (i, (x, tt))) ws)) (fact 𝓤 (r ≡ notedOf g i x)))
 
   module _ (pf : Is F.the-row f′ (val-feet f′ ∷ [])) (p : Is (ShrSlice (named 0) κ R) s (v ∷ [])) (gm : m < 2 ^ 32) where
-    room : n * 12 < 2 ^ 63
+    room : n * 16 < 2 ^ 63
     room = p .0 .1 .1
 
     fits : (j : Upto) → j .0 < 2 ^ 64
@@ -288,22 +288,22 @@ module _ {M : Type 1} (𝓤 : URA M) (H : Heap 𝓤) (A : Atoms 𝓤) (W : Given
           assigns ! (bin ! (load ! (from ! (stop !)) (look ! 12 refl)) (load ! (from ! (stop !)) (look ! 10 refl)) tt)
           (from ! (stop !)) (init ! 8 refl (tt, tt)) $
           first ! $ branches ! (load ! (from ! (stop !)) (look ! 8 refl))
-          (λ less. let l : i .0 < n = ltb→lt (i .0) n less in let far : i .0 * 12 < 2 ^ 64 = omega (arith, room) in
+          (λ less. let l : i .0 < n = ltb→lt (i .0) n less in let far : i .0 * 16 < 2 ^ 64 = omega (arith, room) in
           skips ! $ exec ! C Λ En (after 3 mm.turn-1) (anyQ (Turned i)) $
           assigns ! (bin ! (load ! (from ! (stop !)) (look ! 12 refl)) (lit ! tt) (record { fits = far })) (from ! (stop !))
           (store ! 10 refl (tt, record { fits = far })) $
           assigns ! (bin ! (load ! (from ! (fld ! refl (stop !))) (look-in ! 18 (sub ! 0 refl (whole !))))
           (load ! (from ! (stop !)) (look ! 10 refl)) tt) (from ! (stop !)) (init ! 6 refl (tt, tt)) $
-          rewrite ! 6 (λ (p′ : ℕ). ‵ (fat fullShare tyPtr l₈ 0 (vptr b p′))) (sym (place-is 12 o (i .0))) refl $
+          rewrite ! 6 (λ (p′ : ℕ). ‵ (fat fullShare tyPtr l₈ 0 (vptr b p′))) (sym (place-is 16 o (i .0))) refl $
           move ! (1 ∷ []) $ use1 W (‵ Own ⊛ ‵ Own) (shr-slice-copy 𝓤 H A W (named 0) κ R .twice s (v ∷ [])) $ split ! $
           fsplit ! $ drop ! $ fsplit ! $ drop ! $ move ! (0 ∷ 2 ∷ []) $
           looks-slice ! tt R (Is R) (shows 𝓤 H A R) vals (LL.tells T.the-type T′.the-laws)
           (LL.copy T.the-type T′.the-copy 𝓤 H A W) ys b o
-          (λ q′. elem-out ! R (Is R) (shows 𝓤 H A R) vals (LL.tells T.the-type T′.the-laws) q′ ys (i .0) origin b o l (λ g.
+          (λ q′. elem-out ! R (Is R) (shows 𝓤 H A R) vals (LL.tells T.the-type T′.the-laws) q′ ys (i .0) unused b o l (λ g.
           -- [s[i]; what it owns; the others; what shuts; the fractured borrow; what s owns; and the locals, each 4 places on]
           assigns ! (of-opd ! (load ! (from ! (hop ! (look ! 10 refl) (stop !))) (look-raw ! 0 refl))) (from ! (stop !))
           (init ! 8 refl (LL.lawful T.the-type T′.the-laws 𝓤 H A W .typed (elem (i .0)) (vals (elem (i .0))) g .0)) $
-          elem-back ! R q′ ys (i .0) origin (vals (elem (i .0))) b o l $ shuts-slice ! tt R q′ ys b o $ move ! (1 ∷ []) $ drop ! $
+          elem-back ! R q′ ys (i .0) unused (vals (elem (i .0))) b o l $ shuts-slice ! tt R q′ ys b o $ move ! (1 ∷ []) $ drop ! $
           -- as the invariant has it, with _9 the element, and _8, _7 and _6 full
           use0 W (raw (Noted 𝓤 H A mem run .pre (to-noted (read (i .0)) (i .0) (elem (i .0)))))
           (goes-noted (read (i .0)) (i .0) (elem (i .0)) (i .1 .1) (fits i) g) $

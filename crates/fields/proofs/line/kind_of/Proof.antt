@@ -18,8 +18,17 @@ div-kind c = search needs
 count-of-requires : tie.Need-count-of-requires Inv-loop μ-loop
 count-of-requires c κs = search needs
 
+add-if2 : tie.Need-add-if2 Inv-loop μ-loop
+add-if2 c = search needs
+
+marks-of-requires : tie.Need-marks-of-requires Inv-loop μ-loop
+marks-of-requires c κs = search needs
+
 returns : tie.Need-returns Inv-loop μ-loop
 returns c = search needs
+
+returns-2 : tie.Need-returns-2 Inv-loop μ-loop
+returns-2 c = search needs
 
 loop-less : tie.Need-loop-less Inv-loop μ-loop
 loop-less c = search needs
@@ -27,8 +36,8 @@ loop-less c = search needs
 loop-again : tie.Need-loop-again Inv-loop μ-loop
 loop-again c = search needs
 
-returns-2 : tie.Need-returns-2 Inv-loop μ-loop
-returns-2 c = search needs
+returns-3 : tie.Need-returns-3 Inv-loop μ-loop
+returns-3 c = search needs
 
 pub kind-of-spec : {M : Type 1} → statement M
 kind-of-spec =
@@ -39,7 +48,10 @@ kind-of-spec =
     loop-holds
     div-kind
     count-of-requires
+    add-if2
+    marks-of-requires
     returns
+    returns-2
     loop-less
     loop-again
-    returns-2)
+    returns-3)

@@ -1,4 +1,4 @@
--- `fields::line::read` is safe and ends: every field takes the place on, and there are no more fields than bytes.
+-- `fields::line::read` is safe and ends: every field takes the place on.
 use lib.ListN.{length}
 use mathlib.Core.Path.{_≡_}
 use Prim.Native.Nat.{_≤_, _-_}
@@ -7,7 +7,7 @@ use Rattle.fields.proofs.line.read.Statement.{statement}
 use Rattle.fields.proofs.line.read.Tie as tie
 
 abbrev Inv-loop : tie.InvT-loop
-Inv-loop s shape z words₀ good₀ at₀ i₀ words good at i = (i ≤ at) × (at ≤ length s) × (256 ≡ length words)
+Inv-loop s shape z words₀ good₀ at₀ i₀ words good at i = (at ≤ length s) × (256 ≡ length words)
 
 abbrev μ-loop : tie.MeasureT-loop
 μ-loop s shape z words₀ good₀ at₀ i₀ words good at i = length s - at
@@ -18,11 +18,20 @@ end-of-requires c κs = search needs
 loop-holds : tie.Need-loop-holds Inv-loop μ-loop
 loop-holds c = search needs
 
+array-read-next-said : tie.Need-array-read-next-said Inv-loop μ-loop
+array-read-next-said c = search needs
+
+next-said-requires : tie.Need-next-said-requires Inv-loop μ-loop
+next-said-requires c κs = search needs
+
 array-read-kind-of : tie.Need-array-read-kind-of Inv-loop μ-loop
 array-read-kind-of c = search needs
 
 kind-of-requires : tie.Need-kind-of-requires Inv-loop μ-loop
 kind-of-requires c κs = search needs
+
+array-read-field : tie.Need-array-read-field Inv-loop μ-loop
+array-read-field c = search needs
 
 field-requires : tie.Need-field-requires Inv-loop μ-loop
 field-requires c κs = search needs
@@ -33,14 +42,20 @@ mul-words c = search needs
 array-write-words : tie.Need-array-write-words Inv-loop μ-loop
 array-write-words c = search needs
 
-add-i : tie.Need-add-i Inv-loop μ-loop
-add-i c = search needs
+after-requires : tie.Need-after-requires Inv-loop μ-loop
+after-requires c κs = search needs
 
 loop-less : tie.Need-loop-less Inv-loop μ-loop
 loop-less c = search needs
 
 loop-again : tie.Need-loop-again Inv-loop μ-loop
 loop-again c = search needs
+
+array-read-next-said-2 : tie.Need-array-read-next-said-2 Inv-loop μ-loop
+array-read-next-said-2 c = search needs
+
+next-said-requires-2 : tie.Need-next-said-requires-2 Inv-loop μ-loop
+next-said-requires-2 c κs = search needs
 
 array-read-kind-of-2 : tie.Need-array-read-kind-of-2 Inv-loop μ-loop
 array-read-kind-of-2 c = search needs
@@ -59,14 +74,19 @@ read-spec =
     μ-loop
     end-of-requires
     loop-holds
+    array-read-next-said
+    next-said-requires
     array-read-kind-of
     kind-of-requires
+    array-read-field
     field-requires
     mul-words
     array-write-words
-    add-i
+    after-requires
     loop-less
     loop-again
+    array-read-next-said-2
+    next-said-requires-2
     array-read-kind-of-2
     kind-of-requires-2
     returns)

@@ -1,4 +1,4 @@
--- `fields::said::given` is safe and ends: eighteen words.
+-- `fields::said::given` is safe and ends: eighteen words, and the marks.
 use Prim.Native.Nat.{_≤_, _-_}
 use borrow.Author.Needs.{needs}
 use Rattle.fields.proofs.said.given.Statement.{statement}
@@ -31,6 +31,12 @@ loop-less c = search needs
 loop-again : tie.Need-loop-again Inv-loop μ-loop
 loop-again c = search needs
 
+feet-requires : tie.Need-feet-requires Inv-loop μ-loop
+feet-requires c κs = search needs
+
+six-marks-requires : tie.Need-six-marks-requires Inv-loop μ-loop
+six-marks-requires c κs = search needs
+
 returns : tie.Need-returns Inv-loop μ-loop
 returns c = search needs
 
@@ -47,4 +53,6 @@ given-spec =
     add-k
     loop-less
     loop-again
+    feet-requires
+    six-marks-requires
     returns)

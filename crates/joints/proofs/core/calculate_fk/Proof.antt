@@ -1,10 +1,10 @@
 -- `joints::core::calculate_fk` meets its contract, leg by leg.
-use Rattle.joints.specs.Forward.{standingFeet}
+use Rattle.joints.specs.Forward.{standingPoints}
 use Rattle.joints.proofs.core.calculate_fk.Statement.{statement}
 use Rattle.joints.proofs.core.calculate_fk.Tie as tie
 
 returns : tie.Need-returns
-unfolding standingFeet
+unfolding standingPoints
 returns c =
     simp (
       c .calculate-fk-for-leg6 .ensures,

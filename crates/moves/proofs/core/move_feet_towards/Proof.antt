@@ -1,4 +1,4 @@
--- `moves::core::move_feet_towards` meets its contract: six single steps, together.
+-- `moves::core::move_feet_towards` meets its contract: the points' step, with last's marks.
 use Rattle.moves.specs.Moving.{moveFeetTowards}
 use Rattle.moves.proofs.core.move_feet_towards.Statement.{statement}
 use Rattle.moves.proofs.core.move_feet_towards.Tie as tie
@@ -7,16 +7,11 @@ returns : tie.Need-returns
 unfolding moveFeetTowards
 returns c =
     simp (
-      c .together .ensures,
-      c .before .move-towards6 .ensures,
-      c .before .before .move-towards5 .ensures,
-      c .before .before .before .move-towards4 .ensures,
-      c .before .before .before .before .move-towards3 .ensures,
-      c .before .before .before .before .before .move-towards2 .ensures,
-      c .before .before .before .before .before .before .move-towards .ensures,
+      c .keeping .ensures,
+      c .before .move-points-towards .ensures,
+      c .before .before .points-of2 .ensures,
+      c .before .before .before .points-of .ensures,
     )
 
 pub move-feet-towards-spec : {M : Type 1} → statement M
-move-feet-towards-spec =
-    tie.close
-    (tie.spec (λ _ _. tt) (λ _ _. tt) (λ _ _. tt) (λ _ _. tt) (λ _ _. tt) (λ _ _. tt) (λ _ _. tt) returns)
+move-feet-towards-spec = tie.close (tie.spec (λ _ _. tt) (λ _ _. tt) (λ _ _. tt) (λ _ _. tt) returns)

@@ -1,4 +1,4 @@
--- `rows::seen::answered` meets its contract: refused, or what the core gives of the first six points.
+-- `rows::seen::answered` meets its contract: refused, or what the core gives of the first six feet.
 use Rattle.rows.specs.How.{seenTold}
 use borrow.Author.Tests.{eq-eqb, ne-eqb}
 use Rattle.rows.proofs.seen.answered.Statement.{statement}

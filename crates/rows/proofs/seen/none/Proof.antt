@@ -1,4 +1,4 @@
--- `rows::seen::none` meets its contract: nothing is remembered of no points.
+-- `rows::seen::none` meets its contract: nothing is remembered of no feet.
 use mathlib.Core.Path.{refl}
 use Rattle.rows.specs.Rows.{everyPoint}
 use Rattle.rows.specs.How.{seenOf}

@@ -7,7 +7,16 @@ use Rattle.steps.proofs.core.next_step.Tie as tie
 
 returns : tie.Need-returns
 unfolding nextStep
-returns c = simp (← nought-bits, c .if1 .taken, ← c .before .max-horizontal-distance .ensures)
+returns c =
+    let read = c .before .before in
+    simp (
+      ← nought-bits,
+      c .if1 .taken,
+      ← c .before .max-horizontal-distance .ensures,
+      ← read .points-of3 .ensures,
+      ← read .before .points-of2 .ensures,
+      ← read .before .before .points-of .ensures,
+    )
 
 enum-known-step : tie.Need-enum-known-step
 enum-known-step c = search needs
@@ -18,27 +27,40 @@ enum-told c = search needs
 returns-2 : tie.Need-returns-2
 unfolding nextStep
 returns-2 c =
+    let made = c .before .before .before .before in
+    let full = made .before .before .before .before in
+    let read = full .before in
     simp (
       ← nought-bits,
-      ← c .before .before .before .shift-legs .ensures,
-      ← c .before .before .before .before .step-progress .ensures,
-      ← c .before .before .before .before .before .max-horizontal-distance2 .ensures,
-      c .before .before .before .before .before .before .if1 .left,
-      ← c .before .before .before .before .before .before .before .max-horizontal-distance .ensures,
-      c .before .step .given .1,
+      c .stepped .ensures,
+      c .before .before .step .given .1,
+      ← made .shift-legs .ensures,
+      ← made .before .step-progress .ensures,
+      ← made .before .before .max-horizontal-distance2 .ensures,
+      made .before .before .before .if1 .left,
+      ← full .max-horizontal-distance .ensures,
+      ← read .points-of3 .ensures,
+      ← read .before .points-of2 .ensures,
+      ← read .before .before .points-of .ensures,
     )
 
 returns-3 : tie.Need-returns-3
 unfolding nextStep
 returns-3 c =
+    let made = c .before .before in
+    let full = made .before .before .before .before in
+    let read = full .before in
     simp (
       ← nought-bits,
-      ← c .before .before .shift-legs .ensures,
-      ← c .before .before .before .step-progress .ensures,
-      ← c .before .before .before .before .max-horizontal-distance2 .ensures,
-      c .before .before .before .before .before .if1 .left,
-      ← c .before .before .before .before .before .before .max-horizontal-distance .ensures,
       c .enum-told .given .1,
+      ← made .shift-legs .ensures,
+      ← made .before .step-progress .ensures,
+      ← made .before .before .max-horizontal-distance2 .ensures,
+      made .before .before .before .if1 .left,
+      ← full .max-horizontal-distance .ensures,
+      ← read .points-of3 .ensures,
+      ← read .before .points-of2 .ensures,
+      ← read .before .before .points-of .ensures,
     )
 
 pub next-step-spec : {M : Type 1} → statement M
@@ -46,11 +68,15 @@ next-step-spec =
     tie.close
     (tie.spec
     (λ _ _. tt)
+    (λ _ _. tt)
+    (λ _ _. tt)
+    (λ _ _. tt)
     returns
     (λ _ _. tt)
     (λ _ _. tt)
     (λ _ _. tt)
     enum-known-step
+    (λ _ _. tt)
     enum-told
     returns-2
     returns-3)

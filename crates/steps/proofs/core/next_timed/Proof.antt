@@ -12,11 +12,41 @@ enum-told c = search needs
 
 returns : tie.Need-returns
 unfolding timedAt
-returns c = simp (← c .before .before .before .by-time .ensures, c .before .step .given .1)
+returns c =
+    let made = c .before .before .before .before in
+    let read = made .before .before in
+    simp (
+      c .stepped .ensures,
+      c .before .before .step .given .1,
+      ← made .by-time .ensures,
+      ← read .points-of3 .ensures,
+      ← read .before .points-of2 .ensures,
+      ← read .before .before .points-of .ensures,
+    )
 
 returns-2 : tie.Need-returns-2
 unfolding timedAt
-returns-2 c = simp (← c .before .before .by-time .ensures, c .enum-told .given .1)
+returns-2 c =
+    let none = c .before .before in
+    let read = none .before .before in
+    simp (
+      c .enum-told .given .1,
+      ← none .by-time .ensures,
+      ← read .points-of3 .ensures,
+      ← read .before .points-of2 .ensures,
+      ← read .before .before .points-of .ensures,
+    )
 
 pub next-timed-spec : {M : Type 1} → statement M
-next-timed-spec = tie.close (tie.spec (λ _ _. tt) enum-known-step enum-told returns returns-2)
+next-timed-spec =
+    tie.close
+    (tie.spec
+    (λ _ _. tt)
+    (λ _ _. tt)
+    (λ _ _. tt)
+    (λ _ _. tt)
+    enum-known-step
+    (λ _ _. tt)
+    enum-told
+    returns
+    returns-2)

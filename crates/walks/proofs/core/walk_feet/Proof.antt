@@ -4,7 +4,7 @@ use Prim.Native.Nat.{ℕ, _+_, _-_, _<_}
 use native.Mathlib.Omega.{arith}
 use borrow.Author.Needs.{needs}
 use Rattle.walks.proofs.Ends.{feet-end}
-use Rattle.walks.proofs.Fits.{feet-fit}
+use Rattle.walks.proofs.Fits.{points-fit}
 use Rattle.walks.proofs.Rounds.{Walking, walking-start, walking-few, walking-on, walking-ends}
 use Rattle.walks.proofs.core.walk_feet.Statement.{statement}
 use Rattle.walks.proofs.core.walk_feet.Tie as tie
@@ -19,7 +19,7 @@ loop-holds : tie.Need-loop-holds Inv-loop μ-loop
 loop-holds c =
     let owned = c .good .1 in
     walking-start _ _ _
-    (feet-end _ _ _ (search needs) (feet-fit (c .args .start) (owned .0)) (feet-fit (c .args .target) (owned .1 .0)) (c .pre))
+    (feet-end _ _ _ (search needs) (points-fit (c .args .start) (owned .0)) (points-fit (c .args .target) (owned .1 .0)) (c .pre))
 
 returns : tie.Need-returns Inv-loop μ-loop
 returns c =
