@@ -70,6 +70,8 @@ use Rattle.legs.proofs.core.standing.Reads as legs-core-standing
 use Rattle.legs.proofs.core.chosen.Reads as legs-core-chosen
 use Rattle.legs.proofs.core.point_finite.Reads as legs-core-point-finite
 use Rattle.legs.proofs.core.point_permitted.Reads as legs-core-point-permitted
+use Rattle.legs.proofs.core.points_finite.Reads as legs-core-points-finite
+use Rattle.legs.proofs.core.points_permitted.Reads as legs-core-points-permitted
 use Rattle.legs.proofs.core.feet_finite.Reads as legs-core-feet-finite
 use Rattle.legs.proofs.core.feet_permitted.Reads as legs-core-feet-permitted
 use Rattle.legs.proofs.core.mask_refused.Reads as legs-core-mask-refused
@@ -155,9 +157,11 @@ use Rattle.steps.proofs.core.timed_progress.Reads as steps-core-timed-progress
 use Rattle.steps.proofs.core.even_progress.Reads as steps-core-even-progress
 use Rattle.steps.proofs.core.step_lifted_leg.Reads as steps-core-step-lifted-leg
 use Rattle.steps.proofs.core.shift_legs.Reads as steps-core-shift-legs
-use Rattle.steps.proofs.core.next_step.Reads as steps-core-next-step
-use Rattle.steps.proofs.core.next_timed.Reads as steps-core-next-timed
-use Rattle.steps.proofs.core.next_even.Reads as steps-core-next-even
+use Rattle.steps.proofs.core.course_of.Reads as steps-core-course-of
+use Rattle.steps.proofs.core.step_made.Reads as steps-core-step-made
+use Rattle.steps.proofs.core.step_after.Reads as steps-core-step-after
+use Rattle.steps.proofs.core.timed_after.Reads as steps-core-timed-after
+use Rattle.steps.proofs.core.even_after.Reads as steps-core-even-after
 use Rattle.steps.proofs.core.course_finite.Reads as steps-core-course-finite
 use Rattle.steps.proofs.core.course_permitted.Reads as steps-core-course-permitted
 use Rattle.planner.proofs.plan_refused.Reads as planner-plan-refused
@@ -366,6 +370,12 @@ settled-legs-core-point-finite i = one-value
 
 pub settled-legs-core-point-permitted : Settled (legs-core-point-permitted.Post tt)
 settled-legs-core-point-permitted i = one-value
+
+pub settled-legs-core-points-finite : Settled (legs-core-points-finite.Post tt)
+settled-legs-core-points-finite i = one-value
+
+pub settled-legs-core-points-permitted : Settled (legs-core-points-permitted.Post tt)
+settled-legs-core-points-permitted i = one-value
 
 pub settled-legs-core-feet-finite : Settled (legs-core-feet-finite.Post tt)
 settled-legs-core-feet-finite i = one-value
@@ -627,14 +637,20 @@ settled-steps-core-step-lifted-leg i = one-value
 pub settled-steps-core-shift-legs : Settled (steps-core-shift-legs.Post tt)
 settled-steps-core-shift-legs i = one-value
 
-pub settled-steps-core-next-step : Settled (steps-core-next-step.Post tt)
-settled-steps-core-next-step i = one-value
+pub settled-steps-core-course-of : Settled (steps-core-course-of.Post tt)
+settled-steps-core-course-of i = one-value
 
-pub settled-steps-core-next-timed : Settled (steps-core-next-timed.Post tt)
-settled-steps-core-next-timed i = one-value
+pub settled-steps-core-step-made : Settled (steps-core-step-made.Post tt)
+settled-steps-core-step-made i = one-value
 
-pub settled-steps-core-next-even : Settled (steps-core-next-even.Post tt)
-settled-steps-core-next-even i = one-value
+pub settled-steps-core-step-after : Settled (steps-core-step-after.Post tt)
+settled-steps-core-step-after i = one-value
+
+pub settled-steps-core-timed-after : Settled (steps-core-timed-after.Post tt)
+settled-steps-core-timed-after i = one-value
+
+pub settled-steps-core-even-after : Settled (steps-core-even-after.Post tt)
+settled-steps-core-even-after i = one-value
 
 pub settled-steps-core-course-finite : Settled (steps-core-course-finite.Post tt)
 settled-steps-core-course-finite i = one-value

@@ -143,7 +143,13 @@ finitePoint p = finite (p .x) && finite (p .y) && finite (p .z)
 unfoldable pub permittedPoint : Limit → Point → Bool
 permittedPoint l p = permits l (p .x) && permits l (p .y) && permits l (p .z)
 
--- all six feet pass
+-- all six points pass, and all six feet by theirs
+abbrev pub finitePoints : Points → Bool
+finitePoints p = every (λ l. finitePoint (point p l))
+
+abbrev pub permittedPoints : Limit → Points → Bool
+permittedPoints limit p = every (λ l. permittedPoint limit (point p l))
+
 abbrev pub finiteFeet : Feet → Bool
 finiteFeet f = every (λ l. finitePoint (foot f l))
 

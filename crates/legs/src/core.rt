@@ -14,7 +14,8 @@ ghost use Rattle.numbers.specs.Told.{choose};
 ghost use Rattle.numbers.specs.Door.{permits, when};
 ghost use Rattle.numbers.specs.Limits.{maskTo};
 ghost use mathlib.Core.Bool.{false};
-ghost use Rattle.legs.specs.Legs.{points, lifted, marked, finitePoint, permittedPoint, finiteFeet, permittedFeet};
+ghost use Rattle.legs.specs.Legs.{points, lifted, marked, finitePoint, permittedPoint};
+ghost use Rattle.legs.specs.Legs.{finitePoints, permittedPoints, finiteFeet, permittedFeet};
 ghost use Rattle.legs.specs.Merge.{merged};
 ghost use Rattle.legs.specs.Select.{inSixPlaces, selected};
 ghost use Rattle.legs.specs.How.{headedBy};
@@ -99,7 +100,31 @@ pub fn point_permitted(limit: Limit, p: Point) -> bool
     door::is_permitted(limit, p.x) & door::is_permitted(limit, p.y) & door::is_permitted(limit, p.z)
 }
 
-// Whether all eighteen coordinates are finite. A foot's mark is no number.
+// Whether all eighteen coordinates are finite.
+pub fn points_finite(p: Points) -> bool
+    ensures { λ r. ⌜ r ≡ finitePoints p ⌝ }
+{
+    point_finite(p.left_front)
+        & point_finite(p.right_front)
+        & point_finite(p.left_middle)
+        & point_finite(p.right_middle)
+        & point_finite(p.left_rear)
+        & point_finite(p.right_rear)
+}
+
+// Whether all eighteen lie between the ends.
+pub fn points_permitted(limit: Limit, p: Points) -> bool
+    ensures { λ r. ⌜ r ≡ permittedPoints limit p ⌝ }
+{
+    point_permitted(limit, p.left_front)
+        & point_permitted(limit, p.right_front)
+        & point_permitted(limit, p.left_middle)
+        & point_permitted(limit, p.right_middle)
+        & point_permitted(limit, p.left_rear)
+        & point_permitted(limit, p.right_rear)
+}
+
+// The same of feet. A foot's mark is no number.
 pub fn feet_finite(f: Feet) -> bool
     ensures { λ r. ⌜ r ≡ finiteFeet f ⌝ }
 {
@@ -111,7 +136,6 @@ pub fn feet_finite(f: Feet) -> bool
         & point_finite(f.right_rear.point)
 }
 
-// Whether all eighteen lie between the ends.
 pub fn feet_permitted(limit: Limit, f: Feet) -> bool
     ensures { λ r. ⌜ r ≡ permittedFeet limit f ⌝ }
 {

@@ -27,6 +27,14 @@ pub flag-of-mark : (b : Bool) → eqb (mark b) 1 ≡ b
 flag-of-mark true = refl
 flag-of-mark false = refl
 
+-- two that agree where nothing is refused
+pub alike-where-taken : (n : ℕ) (s t : Told) → (eqb n 0 ≡ true → s ≡ t) → answer n s ≡ answer n t
+alike-where-taken n s t same = by-test (eqb n 0) refl
+  where
+    by-test : (b : Bool) → eqb n 0 ≡ b → answer n s ≡ answer n t
+    by-test true e = ap (λ (u : Told). answer n u) (same e)
+    by-test false e = simp e
+
 -- what two answers tell is the same but for marks: the same refusal, or the same floats
 abbrev pub SameButMarks : Told → Told → Type 0
 SameButMarks s t = (s .number ≡ t .number) × (s .values ≡ t .values)

@@ -13,6 +13,7 @@ use Rattle.numbers.specs.Told.{Told, choose, answer}
 use Rattle.numbers.specs.Door.{unless, when, firstOf}
 use Rattle.numbers.specs.Limits.{maskTo, footLimit}
 use Rattle.numbers.proofs.OnePass.{let-through-to, kept-out-of, both}
+use Rattle.numbers.proofs.OneAnswer.{alike-where-taken}
 use Rattle.legs.specs.Legs.{Leg, whole, feet, finitePoint, permittedPoint, finiteFeet, permittedFeet, nowhere}
 use Rattle.legs.specs.Masks.{has}
 use Rattle.legs.specs.Answers.{givenFeet}
@@ -82,17 +83,11 @@ module _ (f : Feet) (ps : List Foot) (m : ℕ) (small : m < 64) (as-many : lengt
   unfolding updated
   six-do = ap feet (fun-ext (λ l. leg-is l (has m l) refl))
 
-chosen-is : (n : ℕ) (s t : Told) (b : Bool) → eqb n 0 ≡ b → (eqb n 0 ≡ true → s ≡ t) → answer n s ≡ answer n t
-chosen-is n s t true e same = ap (λ (u : Told). answer n u) (same e)
-chosen-is n s t false e same = simp e
-
 pub told-is : (f : Feet) (ps : List Foot) (m : ℕ) → seenTold f (seenOf ps) (length ps) m ≡ updateTold f ps m
 unfolding seenTold updateTold seenOf
 told-is f ps m =
     ap (λ (n : ℕ). answer n (givenFeet (updated f (firstSix ps) m))) (refusal-is f ps m)
-    ∙ chosen-is (updateRefusal f ps m)
+    ∙ alike-where-taken (updateRefusal f ps m)
     (givenFeet (updated f (firstSix ps) m))
     (givenFeet (updated f ps m))
-    (eqb (updateRefusal f ps m) 0)
-    refl
     (λ e. let good = accepted f ps m e in ap givenFeet (six-do f ps m (good .0) (good .1)))

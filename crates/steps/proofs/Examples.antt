@@ -147,7 +147,7 @@ risen s =
     (add binary32 (mul binary32 s (bits 0x3cf5_c28f)) (bits 0x3b83_126f))
     (add binary32 (mul binary32 s (bits 0)) (bits 0x3b83_126f))
 
-pub on-the-way : (even false up 250000000 ≡ went false (stepped LRL up down (risen (sine (over 13176795 (2 ^ 23))))))
+pub on-the-way : (even false up 250000000 ≡ went false (stepped LRL up (points down) (risen (sine (over 13176795 (2 ^ 23))))))
     × (even true up 125000000 ≡ went true (three-lifted (swung (bits 0x3d0b_4395) (bits 0x3b83_126f))))
     × (timed up 250000000 ≡ givenNone)
 unfolding nextEvenTold nextEven evenAt nextTimedTold nextTimed timedAt byTime liftRefusal
@@ -159,4 +159,4 @@ on-the-way = (refl, refl, refl)
 -- which is 34 mm, and 4 mm for the others; the three are lifted
 pub half-way : even false up 250000000 ≡ went false (three-lifted (swung (bits 0x3d0b_4395) (bits 0x3b83_126f)))
 unfolding stepped markAfter same over round ofBits add mul lt eq
-half-way = on-the-way .0 ∙ ap (λ (s : Float). went false (stepped LRL up down (risen s))) quarter-turn
+half-way = on-the-way .0 ∙ ap (λ (s : Float). went false (stepped LRL up (points down) (risen s))) quarter-turn

@@ -2,6 +2,7 @@ mod Bits
 mod Legs
 mod OnePass
 mod Uncapped
+mod Paces
 pub mod Times
 pub mod Within
 pub mod Distances

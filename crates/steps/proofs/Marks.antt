@@ -29,7 +29,7 @@ use Rattle.steps.proofs.FootByFoot.{one-foot-alone}
 use Rattle.steps.proofs.Taken.{step-taken, timed-step-taken, even-step-taken}
 
 -- ---- the rule, leg by leg
-module _ (tripod : Tripod) (last target : Feet) (new : Points) where
+module _ (tripod : Tripod) (last : Feet) (target new : Points) where
   pub points-of-step : points (stepped tripod last target new) ≡ new
   unfolding stepped
   points-of-step = refl
@@ -39,22 +39,22 @@ module _ (tripod : Tripod) (last target : Feet) (new : Points) where
   marks-of-step = lifted-of-marked (stepMark tripod last target new) new
 
   -- its cases: the leg is of the lifted tripod and was away from its target, and came there or not
-  module _ (l : Leg) (of-tripod : has tripod l ≡ true) (away : same (foot last l) (foot target l) ≡ false) where
-    pub lifted-on-its-way : same (point new l) (foot target l) ≡ false → lifted (stepped tripod last target new) l ≡ true
+  module _ (l : Leg) (of-tripod : has tripod l ≡ true) (away : same (foot last l) (point target l) ≡ false) where
+    pub lifted-on-its-way : same (point new l) (point target l) ≡ false → lifted (stepped tripod last target new) l ≡ true
     unfolding markAfter
     lifted-on-its-way h = marks-of-step l ∙ simp (of-tripod, away, h)
 
-    pub stands-at-its-target : same (point new l) (foot target l) ≡ true → lifted (stepped tripod last target new) l ≡ false
+    pub stands-at-its-target : same (point new l) (point target l) ≡ true → lifted (stepped tripod last target new) l ≡ false
     unfolding markAfter
     stands-at-its-target h = marks-of-step l ∙ simp (of-tripod, away, h)
 
   -- it was at its target, or is of the other tripod
-  pub kept-at-its-target : (l : Leg) → same (foot last l) (foot target l) ≡ true
+  pub kept-at-its-target : (l : Leg) → same (foot last l) (point target l) ≡ true
       → lifted (stepped tripod last target new) l ≡ lifted last l
   unfolding markAfter
   kept-at-its-target l h =
       marks-of-step l
-      ∙ by-tests (has tripod l) (same (foot last l) (foot target l)) (not (same (point new l) (foot target l))) (lifted last l) h
+      ∙ by-tests (has tripod l) (same (foot last l) (point target l)) (not (same (point new l) (point target l))) (lifted last l) h
     where
       by-tests : (i b n had : Bool) → b ≡ true → choose (i && not b) n had ≡ had
       by-tests true true n had h = refl
@@ -66,7 +66,7 @@ module _ (tripod : Tripod) (last target : Feet) (new : Points) where
   kept-by-the-others l h = marks-of-step l ∙ simp h
 
 -- ---- at each pace
-after : (t : Tripod) (last target : Feet) (p : Points) (f : Feet) → f ≡ stepped t last target p
+after : (t : Tripod) (last : Feet) (target p : Points) (f : Feet) → f ≡ stepped t last target p
     → (l : Leg) → lifted f l ≡ stepMark t last target (points f) l
 after t last target p f e l =
     ap (λ (g : Feet). lifted g l) e
@@ -74,22 +74,22 @@ after t last target p f e l =
     ∙ ap (λ (q : Points). stepMark t last target q l) (sym (points-of-step t last target p) ∙ sym (ap points e))
 
 pub marks-by-distance : (s s' : StepIterator) (f : Feet) → nextStep s ≡ Step f s'
-    → (l : Leg) → lifted f l ≡ stepMark (s .tripod) (s .last) (s .target) (points f) l
-marks-by-distance s s' f e = after (s .tripod) (s .last) (s .target) _ f (step-taken s s' f e .0)
+    → (l : Leg) → lifted f l ≡ stepMark (s .tripod) (s .last) (points (s .target)) (points f) l
+marks-by-distance s s' f e = after (s .tripod) (s .last) (points (s .target)) _ f (step-taken s s' f e .0)
 
 pub marks-by-time : (s s' : TimedStepIterator) (elapsed : Time) (f : Feet) → nextTimed s elapsed ≡ TimedStep f s'
-    → (l : Leg) → lifted f l ≡ stepMark (s .lift .tripod) (s .last) (s .target) (points f) l
-marks-by-time s s' elapsed f e = after (s .lift .tripod) (s .last) (s .target) _ f (timed-step-taken s s' elapsed f e .0)
+    → (l : Leg) → lifted f l ≡ stepMark (s .lift .tripod) (s .last) (points (s .target)) (points f) l
+marks-by-time s s' elapsed f e = after (s .lift .tripod) (s .last) (points (s .target)) _ f (timed-step-taken s s' elapsed f e .0)
 
 pub marks-at-even-pace : (s s' : EvenStepIterator) (elapsed : Time) (f : Feet) → nextEven s elapsed ≡ EvenStep f s'
-    → (l : Leg) → lifted f l ≡ stepMark (s .lift .tripod) (s .last) (s .target) (points f) l
-marks-at-even-pace s s' elapsed f e = after (s .lift .tripod) (s .last) (s .target) _ f (even-step-taken s s' elapsed f e .0)
+    → (l : Leg) → lifted f l ≡ stepMark (s .lift .tripod) (s .last) (points (s .target)) (points f) l
+marks-at-even-pace s s' elapsed f e = after (s .lift .tripod) (s .last) (points (s .target)) _ f (even-step-taken s s' elapsed f e .0)
 
 -- ---- foot by foot: two steps that agree on one foot's start, last and target points, on its last mark, on progress, lifted tripod,
 -- heights and mode give that foot the same point and the same mark, whatever the other five do and whatever start's and target's marks are
 abbrev pub feetAt : Feet → Feet → Feet → Lift → Float → Feet
 feetAt start last target lift progress =
-    stepped (lift .tripod) last target (pointsOf (shiftLegs (points start) (points last) (points target) lift progress))
+    stepped (lift .tripod) last (points target) (pointsOf (shiftLegs (points start) (points last) (points target) lift progress))
 
 pub one-foot-and-its-mark : (s s' l l' t t' : Feet) (lift : Lift) (progress : Float) (k : Leg)
     → foot s k ≡ foot s' k → foot l k ≡ foot l' k → foot t k ≡ foot t' k → lifted l k ≡ lifted l' k
@@ -102,8 +102,8 @@ one-foot-and-its-mark s s' l l' t t' lift progress k es el et had =
     let alone : point new k ≡ point new' k =
     one-foot-alone (points s) (points s') (points l) (points l') (points t) (points t') lift progress k es el et in
     ap₂ (λ (p : Point) (b : Bool). record { point = p; lifted = b }) alone
-    (marks-of-step (lift .tripod) l t new k
+    (marks-of-step (lift .tripod) l (points t) new k
     ∙ ap (λ (b : Bool). markAfter of-tripod b (foot l k) (foot t k) (point new k)) had
     ∙ ap₂ (λ (p q : Point). markAfter of-tripod (lifted l' k) p q (point new k)) el et
     ∙ ap (λ (p : Point). markAfter of-tripod (lifted l' k) (foot l' k) (foot t' k) p) alone
-    ∙ sym (marks-of-step (lift .tripod) l' t' new' k))
+    ∙ sym (marks-of-step (lift .tripod) l' (points t') new' k))

@@ -5,6 +5,8 @@ use mathlib.Core.List.{[], _∷_}
 use Prim.Native.Nat.{ℕ}
 use native.Mathlib.Omega.{arith}
 use lib.Ieee.{Float}
+use borrow.Author.Tests.{eqb-true}
+use Rattle.numbers.proofs.OneAnswer.{alike-where-taken}
 use Rattle.numbers.specs.Told.{Told, given, answer}
 use Rattle.numbers.specs.Door.{unless, firstOf}
 use Rattle.legs.specs.declared.Feet.{Feet}
@@ -51,15 +53,14 @@ progress-taken progress elapsed period n x e z d =
     let none : progressRefusal elapsed period ≡ 0 = sym e ∙ z in
     simp (d, uncapped elapsed period (progress-in-time elapsed period none) progress, none)
 
-module _ (start last target : Feet) (lift : Lift) (elapsed period : Time) (timed : Bool) (n : ℕ)
-    (t : timed ≡ timely elapsed period) (e : n ≡ liftRefusal start last target lift timed) where
-  refusal : liftRefusal start last target lift (timely elapsed period) ≡ n
-  refusal = sym (e ∙ ap (liftRefusal start last target lift) t)
-
-  pub next-taken : {N : Type 0} (tell : N → Told) (at : Float → N) (progress : Time → Time → Float) (p : Float) (r : N)
-      → n ≡ 0 → p ≡ progress (capped elapsed) (capped period) → r ≡ at p
-      → tell r ≡ answer (liftRefusal start last target lift (timely elapsed period)) (tell (at (progress elapsed period)))
-  next-taken tell at progress p r z d g =
-      let none : liftRefusal start last target lift (timely elapsed period) ≡ 0 = refusal ∙ z in
-      let i : timely elapsed period ≡ true = step-in-time start last target lift (timely elapsed period) none in
-      simp (g, d, uncapped elapsed period i progress, none)
+-- and so does a next step that is made at such a progress
+pub made-in-time : (start last target : Feet) (lift : Lift) (elapsed period : Time) {N : Type 0} (tell : N → Told) (at : Float → N)
+    (progress : Time → Time → Float)
+    → answer (liftRefusal start last target lift (timely elapsed period)) (tell (at (progress (capped elapsed) (capped period))))
+    ≡ answer (liftRefusal start last target lift (timely elapsed period)) (tell (at (progress elapsed period)))
+made-in-time start last target lift elapsed period tell at progress =
+    let n = liftRefusal start last target lift (timely elapsed period) in
+    alike-where-taken n (tell (at (progress (capped elapsed) (capped period)))) (tell (at (progress elapsed period)))
+    (λ e.
+    let i : timely elapsed period ≡ true = step-in-time start last target lift (timely elapsed period) (eqb-true n 0 e) in
+    ap (λ (p : Float). tell (at p)) (uncapped elapsed period i progress))

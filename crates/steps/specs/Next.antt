@@ -63,7 +63,7 @@ stepLast s f =
 
 -- the feet of its step, and what follows
 abbrev pub stepFeet : StepIterator → Points → Feet
-stepFeet s = stepped (s .tripod) (s .last) (s .target)
+stepFeet s = stepped (s .tripod) (s .last) (points (s .target))
 
 abbrev pub stepAfter : StepIterator → PointsStep → NextStep
 stepAfter s = onward (λ p. Step (stepFeet s p) (stepLast s (stepFeet s p))) NoStep
@@ -90,7 +90,7 @@ abbrev pub timedLast : TimedStepIterator → Feet → TimedStepIterator
 timedLast s f = record { start = s .start; last = f; target = s .target; period = s .period; lift = s .lift }
 
 abbrev pub timedFeet : TimedStepIterator → Points → Feet
-timedFeet s = stepped (s .lift .tripod) (s .last) (s .target)
+timedFeet s = stepped (s .lift .tripod) (s .last) (points (s .target))
 
 abbrev pub timedAfter : TimedStepIterator → PointsStep → NextTimed
 timedAfter s = onward (λ p. TimedStep (timedFeet s p) (timedLast s (timedFeet s p))) NoTimedStep
@@ -109,7 +109,7 @@ abbrev pub evenLast : EvenStepIterator → Feet → EvenStepIterator
 evenLast s f = record { start = s .start; last = f; target = s .target; period = s .period; lift = s .lift }
 
 abbrev pub evenFeet : EvenStepIterator → Points → Feet
-evenFeet s = stepped (s .lift .tripod) (s .last) (s .target)
+evenFeet s = stepped (s .lift .tripod) (s .last) (points (s .target))
 
 abbrev pub evenAfter : EvenStepIterator → PointsStep → NextEven
 evenAfter s = onward (λ p. EvenStep (evenFeet s p) (evenLast s (evenFeet s p))) NoEvenStep

@@ -14,16 +14,45 @@ use legs::Point;
 use legs::Points;
 use moves::MoveStep;
 use moves::core::PointsStep;
+use numbers::door;
 ghost use mathlib.Core.Path.{_≡_};
 ghost use Rattle.commands.specs.How.{capped};
-ghost use Rattle.steps.specs.Refusals.{timely, finiteCourse, permittedCourse};
+ghost use mathlib.Core.Bool.{true};
+ghost use Rattle.steps.specs.Refusals.{timely};
 ghost use Rattle.steps.specs.Progress.{stepProgress, timedProgress, evenProgress};
 ghost use Rattle.steps.specs.Leg.{stepLiftedLeg};
 ghost use Rattle.legs.specs.Legs.{leftFront, rightFront};
 ghost use Rattle.steps.specs.Shift.{heightOf, shiftLegs};
 ghost use Rattle.steps.specs.Marks.{markAfter, stepped};
-ghost use Rattle.steps.specs.How.{atOnce, swing, raised, legAt};
-ghost use Rattle.steps.specs.Next.{nextStep, byTime, timedAt, evenAt};
+ghost use Rattle.steps.specs.How.{atOnce, swing, raised, legAt, courseOf, finiteAlong, permittedAlong, paceFinite, pacePermitted};
+ghost use Rattle.steps.specs.How.{byDistance, sideways, wayOf, reached, onItsWay, stepMade, stepOf, timedOf, evenOf};
+
+// From where a step goes, where the feet were last, and to where. Start and target are looked at for their points alone.
+pub struct Course {
+    pub start: Points,
+    pub last: Feet,
+    pub target: Points,
+}
+
+// What a step goes by: the max move of its turn, or how far it is by time, as the source paces it or evenly.
+pub enum Pace {
+    Distance(f32),
+    Timed(f32),
+    Even(f32),
+}
+
+// How far a step is, or that it leads nowhere.
+pub enum Way {
+    At(f32),
+    Nowhere,
+}
+
+// What a step makes: six feet, no step, or why not.
+pub enum Made {
+    Feet(Feet),
+    NoStep,
+    Refused(u32),
+}
 
 // Where in its step a leg is: how far along its way, and how far above its start.
 struct Stage {
@@ -181,144 +210,228 @@ pub fn shift_legs(
     )
 }
 
-// Whether a foot is lifted after a step, which it had made or not: one of the lifted tripod that moved is, unless it came to its target;
-// any other keeps its mark. Last and target are looked at for their points.
-fn mark_after(in_tripod: bool, last: Foot, target: Foot, new: Point) -> bool
-    ensures { λ r. ⌜ r ≡ markAfter «in_tripod» (last .lifted) (last .point) (target .point) new ⌝ }
+// Whether a foot of the lifted tripod is lifted after a step: one that moved is, unless it came to its target; one that was there already
+// keeps its mark.
+fn mark_after(had: bool, last: Point, target: Point, new: Point) -> bool
+    ensures { λ r. ⌜ r ≡ markAfter true had last target new ⌝ }
 {
-    if in_tripod & !moves::core::is_same(last.point, target.point) {
-        !moves::core::is_same(new, target.point)
+    if moves::core::is_same(last, target) {
+        had
     } else {
-        last.lifted
+        !moves::core::is_same(new, target)
     }
 }
 
-// A foot after a step.
-fn foot_after(in_tripod: bool, last: Foot, target: Foot, new: Point) -> Foot
-    ensures { λ r. ⌜ r ≡ record { point = new; lifted = markAfter «in_tripod» (last .lifted) (last .point) (target .point) new } ⌝ }
+// A foot of the lifted tripod after a step.
+fn foot_after(last: Foot, target: Point, new: Point) -> Foot
+    ensures { λ r. ⌜ r ≡ record { point = new; lifted = markAfter true (last .lifted) (last .point) target new } ⌝ }
 {
-    legs::core::foot_at(new, mark_after(in_tripod, last, target, new))
+    legs::core::foot_at(new, mark_after(last.lifted, last.point, target, new))
 }
 
-// Six feet after a step that brought them to these points.
-fn stepped(tripod: Tripod, last: Feet, target: Feet, new: Points) -> Feet
+// Six feet after a step that brought them to these points. Those of the standing tripod keep their marks.
+fn stepped(tripod: Tripod, last: Feet, target: Points, new: Points) -> Feet
     ensures { λ r. ⌜ r ≡ stepped tripod last target new ⌝ }
 {
-    let lrl = commands::core::is_lrl(tripod);
-    Feet {
-        left_front: foot_after(lrl, last.left_front, target.left_front, new.left_front),
-        left_middle: foot_after(!lrl, last.left_middle, target.left_middle, new.left_middle),
-        left_rear: foot_after(lrl, last.left_rear, target.left_rear, new.left_rear),
-        right_front: foot_after(!lrl, last.right_front, target.right_front, new.right_front),
-        right_middle: foot_after(
-            lrl,
-            last.right_middle,
-            target.right_middle,
-            new.right_middle,
-        ),
-        right_rear: foot_after(!lrl, last.right_rear, target.right_rear, new.right_rear),
+    match tripod {
+        Tripod::LRL => Feet {
+            left_front: foot_after(last.left_front, target.left_front, new.left_front),
+            left_middle: legs::core::foot_at(new.left_middle, last.left_middle.lifted),
+            left_rear: foot_after(last.left_rear, target.left_rear, new.left_rear),
+            right_front: legs::core::foot_at(new.right_front, last.right_front.lifted),
+            right_middle: foot_after(last.right_middle, target.right_middle, new.right_middle),
+            right_rear: legs::core::foot_at(new.right_rear, last.right_rear.lifted),
+        },
+        Tripod::RLR => Feet {
+            left_front: legs::core::foot_at(new.left_front, last.left_front.lifted),
+            left_middle: foot_after(last.left_middle, target.left_middle, new.left_middle),
+            left_rear: legs::core::foot_at(new.left_rear, last.left_rear.lifted),
+            right_front: foot_after(last.right_front, target.right_front, new.right_front),
+            right_middle: legs::core::foot_at(new.right_middle, last.right_middle.lifted),
+            right_rear: foot_after(last.right_rear, target.right_rear, new.right_rear),
+        },
     }
 }
 
-// One step more by distance. The source's descent is 0.
-pub fn next_step(s: StepIterator) -> NextStep
-    ensures { λ r. ⌜ r ≡ nextStep s ⌝ }
+// The course of three sets of feet.
+pub fn course_of(start: Feet, last: Feet, target: Feet) -> Course
+    ensures { λ r. ⌜ r ≡ courseOf start last target ⌝ }
 {
-    let start = legs::core::points_of(s.start);
-    let last = legs::core::points_of(s.last);
-    let target = legs::core::points_of(s.target);
-    let full = moves::core::max_horizontal_distance(start, target);
-    if full == 0.0 {
-        return NextStep::NoStep;
+    Course {
+        start: legs::core::points_of(start),
+        last: last,
+        target: legs::core::points_of(target),
     }
-    let gone = moves::core::max_horizontal_distance(last, start);
-    let tripod = s.tripod;
-    let lift = Lift {
-        step_height: s.step_height,
-        grounded_leg_descent: 0.0,
-        tripod: tripod,
-        aggressive_leg_lift: s.aggressive_leg_lift,
-    };
-    let part = step_progress(gone, s.max_move, full);
-    let step = shift_legs(start, last, target, lift, part);
+}
+
+// How far a step by distance is. The source has none where nothing moves sideways.
+fn by_distance(c: Course, max_move: f32) -> Way
+    ensures { λ r. ⌜ r ≡ byDistance c «max_move» ⌝ }
+{
+    let full = moves::core::max_horizontal_distance(c.start, c.target);
+    if full == 0.0 {
+        return Way::Nowhere;
+    }
+    let last = legs::core::points_of(c.last);
+    let gone = moves::core::max_horizontal_distance(last, c.start);
+    Way::At(step_progress(gone, max_move, full))
+}
+
+// A step by time, at this progress. The source has none where nothing moves sideways.
+fn sideways(c: Course, progress: f32) -> Way
+    ensures { λ r. ⌜ r ≡ sideways c progress ⌝ }
+{
+    let full = moves::core::max_horizontal_distance(c.start, c.target);
+    if full <= 0.0 {
+        Way::Nowhere
+    } else {
+        Way::At(progress)
+    }
+}
+
+// How far a step is by its pace. At even pace it ends only where every foot is at its target, whatever lies sideways.
+fn way_of(c: Course, pace: Pace) -> Way
+    ensures { λ r. ⌜ r ≡ wayOf c pace ⌝ }
+{
+    match pace {
+        Pace::Distance(max_move) => by_distance(c, max_move),
+        Pace::Timed(progress) => sideways(c, progress),
+        Pace::Even(progress) => Way::At(progress),
+    }
+}
+
+// The feet of a step, where one moved.
+fn reached(c: Course, lift: Lift, step: PointsStep) -> Made
+    ensures { λ r. ⌜ r ≡ reached c lift step ⌝ }
+{
+    let tripod = lift.tripod;
     match step {
-        PointsStep::Moved(points) => {
-            let feet = stepped(tripod, s.last, s.target, points);
+        PointsStep::Moved(points) => Made::Feet(stepped(tripod, c.last, c.target, points)),
+        PointsStep::Arrived(_) => Made::NoStep,
+    }
+}
+
+// What a step makes that is so far on its way.
+fn on_its_way(c: Course, lift: Lift, way: Way) -> Made
+    ensures { λ r. ⌜ r ≡ onItsWay c lift way ⌝ }
+{
+    match way {
+        Way::At(progress) => {
+            let last = legs::core::points_of(c.last);
+            let step = shift_legs(c.start, last, c.target, lift, progress);
+            reached(c, lift, step)
+        }
+        Way::Nowhere => Made::NoStep,
+    }
+}
+
+// Whether what a pace was given is in the table, and whether it is finite.
+fn pace_permitted(pace: Pace) -> bool
+    ensures { λ r. ⌜ r ≡ pacePermitted pace ⌝ }
+{
+    match pace {
+        Pace::Distance(max_move) => door::is_permitted(numbers::limits::max_move(), max_move),
+        Pace::Timed(_) => true,
+        Pace::Even(_) => true,
+    }
+}
+
+fn pace_finite(pace: Pace) -> bool
+    ensures { λ r. ⌜ r ≡ paceFinite pace ⌝ }
+{
+    match pace {
+        Pace::Distance(max_move) => door::is_finite(max_move),
+        Pace::Timed(_) => true,
+        Pace::Even(_) => true,
+    }
+}
+
+// One step more, of any of the three iterators, its door included. One function for all three stays apart from its callers, which are then
+// small, and a caller that does not use the state after pays nothing for it.
+pub fn step_made(c: Course, lift: Lift, pace: Pace, timely: bool) -> Made
+    ensures { λ r. ⌜ r ≡ stepMade c lift pace timely ⌝ }
+{
+    let limit = numbers::limits::direction();
+    let permitted = course_permitted(c)
+        & pace_permitted(pace)
+        & door::is_permitted(limit, lift.step_height)
+        & door::is_permitted(limit, lift.grounded_leg_descent);
+    if permitted {
+        if timely {
+            on_its_way(c, lift, way_of(c, pace))
+        } else {
+            Made::Refused(3)
+        }
+    } else {
+        Made::Refused(door::outside(
+            course_finite(c)
+                & pace_finite(pace)
+                & door::is_finite(lift.step_height)
+                & door::is_finite(lift.grounded_leg_descent),
+        ))
+    }
+}
+
+// The step of a state, and the state that remembers its feet: by distance,
+pub fn step_after(s: StepIterator, made: Made) -> NextStep
+    ensures { λ r. ⌜ r ≡ stepOf s made ⌝ }
+{
+    match made {
+        Made::Feet(feet) => {
             let mut after = s;
             after.last = feet;
             NextStep::Step(feet, after)
         }
-        PointsStep::Arrived(_) => NextStep::NoStep,
+        Made::NoStep => NextStep::NoStep,
+        Made::Refused(n) => NextStep::Refused(n),
     }
 }
 
-// The points of a timed step; where the longest horizontal distance is 0 none moves.
-fn by_time(start: Points, last: Points, target: Points, lift: Lift, progress: f32) -> PointsStep
-    ensures { λ r. ⌜ r ≡ byTime start last target lift progress ⌝ }
+// by time,
+pub fn timed_after(s: TimedStepIterator, made: Made) -> NextTimed
+    ensures { λ r. ⌜ r ≡ timedOf s made ⌝ }
 {
-    let full = moves::core::max_horizontal_distance(start, target);
-    if full <= 0.0 {
-        PointsStep::Arrived(last)
-    } else {
-        shift_legs(start, last, target, lift, progress)
-    }
-}
-
-// One step more by time, at this progress.
-pub fn next_timed(s: TimedStepIterator, progress: f32) -> NextTimed
-    ensures { λ r. ⌜ r ≡ timedAt s progress ⌝ }
-{
-    let start = legs::core::points_of(s.start);
-    let last = legs::core::points_of(s.last);
-    let target = legs::core::points_of(s.target);
-    let lift = s.lift;
-    let tripod = lift.tripod;
-    let step = by_time(start, last, target, lift, progress);
-    match step {
-        PointsStep::Moved(points) => {
-            let feet = stepped(tripod, s.last, s.target, points);
+    match made {
+        Made::Feet(feet) => {
             let mut after = s;
             after.last = feet;
             NextTimed::Step(feet, after)
         }
-        PointsStep::Arrived(_) => NextTimed::NoStep,
+        Made::NoStep => NextTimed::NoStep,
+        Made::Refused(n) => NextTimed::Refused(n),
     }
 }
 
-// One step more at even pace: it ends only where every last point equals its target, whatever lies sideways.
-pub fn next_even(s: EvenStepIterator, progress: f32) -> NextEven
-    ensures { λ r. ⌜ r ≡ evenAt s progress ⌝ }
+// and at even pace.
+pub fn even_after(s: EvenStepIterator, made: Made) -> NextEven
+    ensures { λ r. ⌜ r ≡ evenOf s made ⌝ }
 {
-    let start = legs::core::points_of(s.start);
-    let last = legs::core::points_of(s.last);
-    let target = legs::core::points_of(s.target);
-    let lift = s.lift;
-    let tripod = lift.tripod;
-    let step = shift_legs(start, last, target, lift, progress);
-    match step {
-        PointsStep::Moved(points) => {
-            let feet = stepped(tripod, s.last, s.target, points);
+    match made {
+        Made::Feet(feet) => {
             let mut after = s;
             after.last = feet;
             NextEven::Step(feet, after)
         }
-        PointsStep::Arrived(_) => NextEven::NoStep,
+        Made::NoStep => NextEven::NoStep,
+        Made::Refused(n) => NextEven::Refused(n),
     }
 }
 
 // Whether every coordinate of start, last and target is finite.
-pub fn course_finite(start: Feet, last: Feet, target: Feet) -> bool
-    ensures { λ r. ⌜ r ≡ finiteCourse start last target ⌝ }
+pub fn course_finite(c: Course) -> bool
+    ensures { λ r. ⌜ r ≡ finiteAlong c ⌝ }
 {
-    legs::core::feet_finite(start) & legs::core::feet_finite(last) & legs::core::feet_finite(target)
+    legs::core::points_finite(c.start)
+        & legs::core::feet_finite(c.last)
+        & legs::core::points_finite(c.target)
 }
 
 // Whether every coordinate of start, last and target is in the table.
-pub fn course_permitted(start: Feet, last: Feet, target: Feet) -> bool
-    ensures { λ r. ⌜ r ≡ permittedCourse start last target ⌝ }
+pub fn course_permitted(c: Course) -> bool
+    ensures { λ r. ⌜ r ≡ permittedAlong c ⌝ }
 {
     let limit = numbers::limits::foot_limit();
-    legs::core::feet_permitted(limit, start)
-        & legs::core::feet_permitted(limit, last)
-        & legs::core::feet_permitted(limit, target)
+    legs::core::points_permitted(limit, c.start)
+        & legs::core::feet_permitted(limit, c.last)
+        & legs::core::points_permitted(limit, c.target)
 }

@@ -121,16 +121,15 @@ pub fn even_progress(elapsed: Time, period: Time) -> Answer
 pub fn step_refused(s: StepIterator) -> u32
     ensures { λ r. ⌜ r ≡ stepRefusal s ⌝ }
 {
-    let permitted = core::course_permitted(s.start, s.last, s.target)
+    let c = core::course_of(s.start, s.last, s.target);
+    let permitted = core::course_permitted(c)
         & door::is_permitted(numbers::limits::max_move(), s.max_move)
         & door::is_permitted(numbers::limits::direction(), s.step_height);
     if permitted {
         0
     } else {
         door::outside(
-            core::course_finite(s.start, s.last, s.target)
-                & door::is_finite(s.max_move)
-                & door::is_finite(s.step_height),
+            core::course_finite(c) & door::is_finite(s.max_move) & door::is_finite(s.step_height),
         )
     }
 }
@@ -140,14 +139,15 @@ pub fn lift_refused(start: Feet, last: Feet, target: Feet, lift: Lift, timely: b
     ensures { λ r. ⌜ r ≡ liftRefusal start last target lift timely ⌝ }
 {
     let limit = numbers::limits::direction();
-    let permitted = core::course_permitted(start, last, target)
+    let c = core::course_of(start, last, target);
+    let permitted = core::course_permitted(c)
         & door::is_permitted(limit, lift.step_height)
         & door::is_permitted(limit, lift.grounded_leg_descent);
     if permitted {
         door::unless(timely, 3)
     } else {
         door::outside(
-            core::course_finite(start, last, target)
+            core::course_finite(c)
                 & door::is_finite(lift.step_height)
                 & door::is_finite(lift.grounded_leg_descent),
         )
@@ -183,16 +183,20 @@ impl StepIterator {
         }
     }
 
-    // One step more. All the state's floats are looked at again.
+    // One step more. All the state's floats are looked at again. The source's descent is 0.
     pub fn next(self) -> NextStep
         ensures { λ r. ⌜ toldNextStep r ≡ nextStepTold self ⌝ }
     {
-        let n = step_refused(self);
-        if n == 0 {
-            core::next_step(self)
-        } else {
-            NextStep::Refused(n)
-        }
+        let c = core::course_of(self.start, self.last, self.target);
+        let tripod = self.tripod;
+        let lift = Lift {
+            step_height: self.step_height,
+            grounded_leg_descent: 0.0,
+            tripod: tripod,
+            aggressive_leg_lift: self.aggressive_leg_lift,
+        };
+        let pace = core::Pace::Distance(self.max_move);
+        core::step_after(self, core::step_made(c, lift, pace, true))
     }
 }
 
@@ -220,13 +224,12 @@ impl TimedStepIterator {
     pub fn next(self, elapsed: Time) -> NextTimed
         ensures { λ r. ⌜ toldNextTimed r ≡ nextTimedTold self elapsed ⌝ }
     {
-        let timely = core::is_timely(elapsed, self.period);
-        let n = lift_refused(self.start, self.last, self.target, self.lift, timely);
-        if n == 0 {
-            core::next_timed(self, core::timed_progress(elapsed, self.period))
-        } else {
-            NextTimed::Refused(n)
-        }
+        let c = core::course_of(self.start, self.last, self.target);
+        let lift = self.lift;
+        let period = self.period;
+        let timely = core::is_timely(elapsed, period);
+        let pace = core::Pace::Timed(core::timed_progress(elapsed, period));
+        core::timed_after(self, core::step_made(c, lift, pace, timely))
     }
 }
 
@@ -254,12 +257,11 @@ impl EvenStepIterator {
     pub fn next(self, elapsed: Time) -> NextEven
         ensures { λ r. ⌜ toldNextEven r ≡ nextEvenTold self elapsed ⌝ }
     {
-        let timely = core::is_timely(elapsed, self.period);
-        let n = lift_refused(self.start, self.last, self.target, self.lift, timely);
-        if n == 0 {
-            core::next_even(self, core::even_progress(elapsed, self.period))
-        } else {
-            NextEven::Refused(n)
-        }
+        let c = core::course_of(self.start, self.last, self.target);
+        let lift = self.lift;
+        let period = self.period;
+        let timely = core::is_timely(elapsed, period);
+        let pace = core::Pace::Even(core::even_progress(elapsed, period));
+        core::even_after(self, core::step_made(c, lift, pace, timely))
     }
 }

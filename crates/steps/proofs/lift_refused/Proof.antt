@@ -10,13 +10,14 @@ returns : tie.Need-returns
 unfolding liftRefusal
 returns c =
     let d = c .before .before in
-    let a = d .before .before .before .before .args in
+    let a = d .before .before .before .before .before .args in
     let p =
     simp (
       d .is-permitted2 .ensures,
       d .before .is-permitted .ensures,
       d .before .before .course-permitted .ensures,
-      d .before .before .before .direction .ensures,
+      d .before .before .before .course-of .ensures,
+      d .before .before .before .before .direction .ensures,
     ) at (c .before .if1 .taken) in
     simp (c .unless .ensures)
     (let-through-to
@@ -30,19 +31,21 @@ returns-2 : tie.Need-returns-2
 unfolding liftRefusal
 returns-2 c =
     let d = c .before .before .before .before .before in
-    let a = d .before .before .before .before .args in
+    let a = d .before .before .before .before .before .args in
     let p =
     simp (
       d .is-permitted2 .ensures,
       d .before .is-permitted .ensures,
       d .before .before .course-permitted .ensures,
-      d .before .before .before .direction .ensures,
+      d .before .before .before .course-of .ensures,
+      d .before .before .before .before .direction .ensures,
     ) at (c .before .before .before .before .if1 .left) in
     simp (
       c .outside .ensures,
       c .before .is-finite2 .ensures,
       c .before .before .is-finite .ensures,
       c .before .before .before .course-finite .ensures,
+      d .before .before .before .course-of .ensures,
     )
     (kept-out-of
     (finiteLift (a .start) (a .last) (a .target) (a .lift))
@@ -54,6 +57,7 @@ pub lift-refused-spec : {M : Type 1} → statement M
 lift-refused-spec =
     tie.close
     (tie.spec
+    (λ _ _. tt)
     (λ _ _. tt)
     (λ _ _. tt)
     (λ _ _. tt)

@@ -9,7 +9,7 @@ returns : tie.Need-returns
 unfolding stepRefusal
 returns c =
     let d = c .before in
-    let s = d .before .before .before .before .before .args .s in
+    let s = d .before .before .before .before .before .before .args .s in
     let p =
     simp (
       d .is-permitted2 .ensures,
@@ -17,6 +17,7 @@ returns c =
       d .before .before .is-permitted .ensures,
       d .before .before .before .max-move .ensures,
       d .before .before .before .before .course-permitted .ensures,
+      d .before .before .before .before .before .course-of .ensures,
     ) at (c .if1 .taken) in
     let-through {F = finiteStep s} {P = permittedStep s} (step-finite s p) p
 
@@ -24,7 +25,7 @@ returns-2 : tie.Need-returns-2
 unfolding stepRefusal
 returns-2 c =
     let d = c .before .before .before .before .before in
-    let s = d .before .before .before .before .before .args .s in
+    let s = d .before .before .before .before .before .before .args .s in
     let p =
     simp (
       d .is-permitted2 .ensures,
@@ -32,18 +33,21 @@ returns-2 c =
       d .before .before .is-permitted .ensures,
       d .before .before .before .max-move .ensures,
       d .before .before .before .before .course-permitted .ensures,
+      d .before .before .before .before .before .course-of .ensures,
     ) at (c .before .before .before .before .if1 .left) in
     simp (
       c .outside .ensures,
       c .before .is-finite2 .ensures,
       c .before .before .is-finite .ensures,
       c .before .before .before .course-finite .ensures,
+      d .before .before .before .before .before .course-of .ensures,
     ) (kept-out (finiteStep s) (permittedStep s) p)
 
 pub step-refused-spec : {M : Type 1} → statement M
 step-refused-spec =
     tie.close
     (tie.spec
+    (λ _ _. tt)
     (λ _ _. tt)
     (λ _ _. tt)
     (λ _ _. tt)

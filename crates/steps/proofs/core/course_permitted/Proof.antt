@@ -1,13 +1,13 @@
--- `steps::core::course_permitted` meets its contract, row by row.
+-- `steps::core::course_permitted` meets its contract, set by set.
 use Rattle.steps.proofs.core.course_permitted.Statement.{statement}
 use Rattle.steps.proofs.core.course_permitted.Tie as tie
 
 returns : tie.Need-returns
 returns c =
     simp (
-      c .feet-permitted3 .ensures,
-      c .before .feet-permitted2 .ensures,
-      c .before .before .feet-permitted .ensures,
+      c .points-permitted2 .ensures,
+      c .before .feet-permitted .ensures,
+      c .before .before .points-permitted .ensures,
       c .before .before .before .foot-limit .ensures,
     )
 
