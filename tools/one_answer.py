@@ -21,9 +21,12 @@ BY_HAND = {
     "walks-core-walk-feet": "i = walks-one.one-count-of-feet (i .0) (i .1 .0) (i .1 .1 .0)",
 }
 
-# A function that is lent a row has no `Post`. Its contract is one definition of its room's specs/, and the law in its
-# room's proofs/OneAnswer is stated over that definition: both are named here and looked for.
+# A function that is lent a row of structs has no `Post`. Its contract is one definition of its room's specs/, and the law in
+# its room's proofs/OneAnswer is stated over that definition: both are named here and looked for.
 LENT = {"rows-updated-from-selected-legs": ("UpdateOf", "one-update")}
+
+# Functions that change lent bytes: where the bytes stand in what the caller holds at the end, which the law settles too.
+CHANGED = {"poses-to-json": "held .1 .0 .now"}
 
 HEAD = """-- No second answer fits: for every public function of the rooms that the face is made of, and of their public modules, what comes in settles what goes out,
 -- refusals included. Each law is stated over the function's own contract, as the checker has it (`Post`): what is passed, the answer, and what the caller
@@ -45,9 +48,14 @@ same-turn : (a b : Turn) → a .sine ≡ b .sine → a .cosine ≡ b .cosine →
 same-turn a b s c = ap₂ turn s c
   where
     turn : Float → Float → Turn
-    turn x y = record { sine = x; cosine = y }"""
+    turn x y = record { sine = x; cosine = y }
+
+-- bytes are lent: no two answers, and no two rows at the end, meet the contract
+abbrev pub SettledRow : {I A H R : Type 0} → (H → R) → (I → A → H → Type 0) → Type 0
+SettledRow {I} {A} {H} row C = (i : I) (a b : A) (h k : H) → C i a h → C i b k → (a ≡ b) × (row h ≡ row k)"""
 
 USES = """use lib.Ieee.{Float}
+use contract.Lifetimes.{Lfts}
 use Rattle.sines.specs.declared.core.Turn.{Turn}"""
 
 
@@ -61,8 +69,8 @@ def tellers(text):
     return found
 
 
-# A public function: its name, where its contract is, its name in the file, and how the contract settles the answer.
-Law = namedtuple("Law", "function contract label body")
+# A public function: its name, where its contract is, its name in the file, what its law says, and how the contract settles the answer.
+Law = namedtuple("Law", "function contract label says body")
 
 
 def laws(room):
@@ -77,11 +85,28 @@ def laws(room):
             if function.public and label in LENT:
                 lent(room, label, name, function)
             elif function.public:
-                yield Law(name, ".".join(path), label, BY_HAND.get(label) or settled(name, function.clauses, told))
+                says, body = borrowed(label, name, function.clauses, told) or by_value(label, name, function.clauses, told)
+                yield Law(name, ".".join(path), label, says, body)
+
+
+def by_value(label, name, clauses, told):
+    """The law of a function that takes values."""
+    return f"Settled ({label}.Post tt)", BY_HAND.get(label) or settled(name, clauses, told)
+
+
+def borrowed(label, name, clauses, told):
+    """The law of a function that is lent bytes, for any lifetime: its contract speaks of them at the entry, and at the exit if it changes them."""
+    if label in CHANGED:
+        equation = settled(name, clauses, told).removeprefix("i = ")
+        both = f"({equation} a b (p .0) (q .0), p .1 ∙ sym (q .1))"
+        return f"(κs : Lfts 1) → SettledRow (λ held. {CHANGED[label]}) ({label}.Post κs)", f"κs i a b h k p q = {both}"
+    if clauses and ".entry" in clauses[0].said:
+        return f"(κs : Lfts 1) → Settled ({label}.Post κs)", "κs " + settled(name, clauses, told)
+    return None
 
 
 def settled(name, clauses, told):
-    equation = clauses and re.match(r"(?:(\w+) )?" + clauses[0].answer + " ≡", clauses[0].said)
+    equation = clauses and re.match(r"\(?(?:(\w+) )?" + clauses[0].answer + " ≡", clauses[0].said)
     if not equation or equation[1] and equation[1] not in told:
         sys.exit(f"one_answer.py: {name}: no law of one answer, since its contract is no equation of what is told")
     law = "one-value"
@@ -114,7 +139,7 @@ def made(every):
     yield LAWS
     for room in ROOMS:
         yield f"\n-- ---- {room}"
-        yield "\n\n".join(f"pub settled-{l.label} : Settled ({l.label}.Post tt)\nsettled-{l.label} {l.body}" for l in every[room])
+        yield "\n\n".join(f"pub settled-{l.label} : {l.says}\nsettled-{l.label} {l.body}" for l in every[room])
 
 
 def missing(every):

@@ -1,4 +1,5 @@
 // Answers operation lines (docs/OPERATIONS.md) by the plain Rust reading, for comparing with `replay`.
+mod json;
 mod reference;
 use reference::*;
 use std::io::{self, BufRead, Write};
@@ -98,6 +99,23 @@ impl<'a> Fields<'a> {
             };
         }
         Some(Config { coxa_length, femur_length, tibia_length, femur_offset, tibia_offset, legs })
+    }
+    /// Three floats, or `-` for null.
+    fn leg(&mut self) -> Parsed<json::Leg> {
+        if self.rest.clone().next()? == "-" {
+            self.rest.next();
+            return Some(None);
+        }
+        Some(Some([self.float()?, self.float()?, self.float()?]))
+    }
+    /// Bytes as hex digits, or `-` for none.
+    fn text(&mut self) -> Parsed<Vec<u8>> {
+        let f = self.rest.next()?;
+        if f == "-" {
+            return Some(vec![]);
+        }
+        let good = !f.is_empty() && f.len() % 2 == 0 && f.bytes().all(|b| matches!(b, b'0'..=b'9' | b'a'..=b'f'));
+        if good { (0..f.len()).step_by(2).map(|i| u8::from_str_radix(&f[i..i + 2], 16).ok()).collect() } else { None }
     }
     fn done(&mut self) -> Parsed<()> {
         if self.rest.next().is_none() { Some(()) } else { None }
@@ -253,6 +271,19 @@ fn on_commands(name: &str, f: &mut Fields) -> Parsed<String> {
     })
 }
 
+/// A leg of a pose.
+fn leg(l: json::Leg) -> String {
+    l.map_or(" -".to_string(), |p| p.iter().map(|&x| float(x)).collect())
+}
+
+/// What writing answers, and how many bytes of the row still hold what filled them.
+fn written(legs: [json::Leg; 6], n: usize) -> String {
+    match json::to_json(&legs, n) {
+        Ok(text) => format!("ok {} {text} {}", text.len(), n - text.len()),
+        Err(number) => format!("R {number} {n}"),
+    }
+}
+
 fn answer(line: &str) -> Parsed<String> {
     let mut f = Fields { rest: line.split(' '), marks: false };
     let word = f.rest.next()?;
@@ -271,6 +302,24 @@ fn answer(line: &str) -> Parsed<String> {
                 _ => arc_cosine(x),
             };
             told(r, float)
+        }
+        "jread" => {
+            let text = f.text()?;
+            f.done()?;
+            match json::from_json(&text) {
+                Ok(legs) => format!("ok{} 000000", legs.map(leg).concat()),
+                Err(number) => format!("R {number}"),
+            }
+        }
+        "jwrite" => {
+            let (n, fill) = (f.short()?, f.short()?);
+            let legs = [f.leg()?, f.leg()?, f.leg()?, f.leg()?, f.leg()?, f.leg()?];
+            f.bits(6)?;
+            f.done()?;
+            if n > 0x400 || fill > 0xff {
+                return None;
+            }
+            written(legs, n as usize)
         }
         "min" | "max" | "atan2" => {
             let (x, y) = (f.float()?, f.float()?);

@@ -33,7 +33,7 @@ pub fn point(w: Words, i: usize, k: usize) -> Point {
 }
 
 // A foot at this point; it is lifted where the lowest bit of the marks is 1.
-fn foot(point: Point, marks: u64) -> Foot {
+pub fn foot(point: Point, marks: u64) -> Foot {
     Foot {
         point: point,
         lifted: marks % 2 == 1,

@@ -7,14 +7,22 @@ ghost use lib.ListN.{length};
 const BLANK: u8 = 32;
 
 // A longer line is not read.
-const LONGEST: usize = 4096;
+pub const LONGEST: usize = 4096;
 
-// Kinds of fields that a shape does not name: marks that a line does not say, so that all are 0, six bits, and a bit for each value.
+// Kinds of fields that a shape does not name: marks that a line does not say, so that all are 0, and a bit for each value.
 const UNSAID: u64 = 11;
+
+const VALUE_BITS: u64 = 13;
+
+// Kinds that it does: a float, six bits, and the first word of a leg, which may be `-` for the whole leg.
+const FLOAT: u64 = 1;
 
 const SIX_BITS: u64 = 12;
 
-const VALUE_BITS: u64 = 13;
+const LEG: u64 = 14;
+
+// The word of a leg that is null, which is no float's.
+pub const NULL: u64 = 0x1_0000_0000;
 
 // A line's numbers, and whether it has its shape.
 pub struct Line {
@@ -88,8 +96,8 @@ fn values_of(given: u64) -> u64 {
 // How many words a kind has. Feet have their marks behind them, said or not.
 fn count_of(kind: u64, given: u64) -> u64 {
     match kind {
-        1 | 4 | 5 | 6 => 1,
-        2 => 3,
+        FLOAT | 4 | 5 | 6 | SIX_BITS => 1,
+        2 | LEG => 3,
         3 | 9 => 19,
         7 => 41,
         8 | 10 => values_of(given),
@@ -112,6 +120,14 @@ fn marks_of(kind: u64, given: u64) -> u64 {
     }
 }
 
+// What a word of a kind is, the first of them or not, the last or not.
+fn part_of(kind: u64, first: bool, last: bool, given: u64) -> u64 {
+    if (kind == LEG) & !first {
+        return FLOAT;
+    }
+    if last { marks_of(kind, given) } else { kind }
+}
+
 // The kind of the i-th word of a shape.
 fn kind_of(shape: u64, i: u64, given: u64) -> u64 {
     let mut left = i;
@@ -120,10 +136,7 @@ fn kind_of(shape: u64, i: u64, given: u64) -> u64 {
         let kind = shape / weight % 16;
         let n = count_of(kind, given);
         if left < n {
-            if left + 1 == n {
-                return marks_of(kind, given);
-            }
-            return kind;
+            return part_of(kind, left == 0, left + 1 == n, given);
         }
         left -= n;
         weight = weight / 16;
@@ -140,6 +153,7 @@ fn takes(kind: u64, digits: usize, value: u64, given: u64) -> bool {
         6 => true,
         SIX_BITS => digits == 6,
         VALUE_BITS => digits as u64 == given,
+        LEG => (digits == 8) | ((digits == 1) & (value == NULL)),
         _ => digits == 8,
     }
 }
@@ -178,10 +192,20 @@ fn bits(s: &[u8]) -> Digits {
     }
 }
 
+// Whether a field is `-`, which stands for nothing.
+pub fn is_none(s: &[u8]) -> bool {
+    if s.len() == 1 { s[0] == b'-' } else { false }
+}
+
 // The number of a field of this kind.
 fn number(s: &[u8], kind: u64) -> Digits {
     if (kind == SIX_BITS) | (kind == VALUE_BITS) {
         bits(s)
+    } else if (kind == LEG) & is_none(s) {
+        Digits {
+            good: true,
+            value: NULL,
+        }
     } else {
         lines::digits::hex(s, 1, 16)
     }
@@ -207,6 +231,15 @@ fn after(i: u64) -> u64 {
     i % 4096 + 1
 }
 
+// The word after a field: one that says that a leg is null stands for its three words.
+fn after_field(i: u64, kind: u64, value: u64) -> u64 {
+    if (kind == LEG) & (value == NULL) {
+        after(after(after(i)))
+    } else {
+        after(i)
+    }
+}
+
 // The next word that a line says, from the i-th on: of those that it does not say no two stand side by side.
 fn next_said(shape: u64, i: u64, given: u64) -> u64 {
     if kind_of(shape, i, given) == UNSAID {
@@ -225,11 +258,12 @@ pub fn read(s: &[u8], shape: u64) -> Line {
     let mut i: u64 = 0;
     while at < s.len() {
         let k = next_said(shape, i, words[1]);
-        let f = field(s, at, kind_of(shape, k, words[1]), words[1]);
+        let kind = kind_of(shape, k, words[1]);
+        let f = field(s, at, kind, words[1]);
         words[(k % 256) as usize] = f.value;
         good = good & f.good;
         at = f.end;
-        i = after(k);
+        i = after_field(k, kind, f.value);
     }
     let end = next_said(shape, i, words[1]);
     Line {

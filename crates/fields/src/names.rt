@@ -83,6 +83,10 @@ pub const FLAGS: u64 = 0x66_6c61_6773;
 
 pub const DEFAULTS: u64 = 0x6465_6661_756c_7473;
 
+pub const JREAD: u64 = 0x6a_7265_6164;
+
+pub const JWRITE: u64 = 0x6a77_7269_7465;
+
 // Those that take and show marks.
 pub const MERGEM: u64 = 0x6d65_7267_656d;
 
@@ -106,7 +110,7 @@ pub const FKM: u64 = 0x66_6b6d;
 
 // What a line holds after its name, a hex digit each: 1 a float, 2 a point, 3 a row, 4 a u32, 5 a bit, 6 seconds,
 // 7 a configuration, 8 as many points as the number before says; 9 a row with its marks, a as many feet as the number before says,
-// their marks behind them. A time is 64, a command 2_6415.
+// their marks behind them; c six bits, e a point or `-`. A time is 64, a command 2_6415.
 pub fn shape(name: u64) -> u64 {
     match name {
         ABS | SQRT | SIN | COS | ACOS | BITS => 0x1,
@@ -137,6 +141,7 @@ pub fn shape(name: u64) -> u64 {
         PLANM => 0x9952_6415,
         IK | IKS | FK | FKM => 0x37,
         INV | FLAG => 0x5,
+        JWRITE => 0x4_4eee_eeec,
         _ => 0,
     }
 }

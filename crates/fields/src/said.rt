@@ -31,24 +31,34 @@ fn letters(o: Words, x: u64) -> Words {
     word(o, LETTERS + x % LETTERS)
 }
 
+// No words yet.
+pub fn none() -> Words {
+    [0; 256]
+}
+
+// A letter more.
+pub fn letter(o: Words, b: u8) -> Words {
+    letters(o, b as u64)
+}
+
 // `ok`, to which the values are added.
 pub fn ok() -> Words {
-    letters([0; 256], 0x6f6b)
+    letters(none(), 0x6f6b)
 }
 
 // A line that does not parse.
 pub fn unreadable() -> Words {
-    letters([0; 256], 0x45)
+    letters(none(), 0x45)
 }
 
 // `R` and the number of a refusal.
 pub fn refused(n: u32) -> Words {
-    decimal(letters([0; 256], 0x52), n)
+    decimal(letters(none(), 0x52), n)
 }
 
 // `ok` and a letter.
 pub fn marked(b: u8) -> Words {
-    letters(ok(), b as u64)
+    letter(ok(), b)
 }
 
 // A number in decimal digits.

@@ -67,14 +67,14 @@ fn word(t: Text, w: u64) -> Text {
     }
 }
 
-// The words parted by blanks, and a newline.
-fn of(o: Words) -> Text {
+// The words parted by blanks, and a last byte.
+fn of(o: Words, last: u8) -> Text {
     let mut t = before(
         Text {
             bytes: [0; 4096],
             at: 0,
         },
-        10,
+        last,
     );
     let mut i = o[0] % 256;
     while 1 < i {
@@ -92,12 +92,24 @@ fn written(s: &[u8], at: usize) {
     }
 }
 
-// An answer is written out as a line.
-pub fn print(o: Words) {
-    let t = of(o);
+// Words and a last byte are written out.
+fn put(o: Words, last: u8) {
+    let t = of(o, last);
     let at = t.at;
     let bytes = t.bytes;
     written(&bytes, at);
+}
+
+// An answer is written out as a line.
+pub fn print(o: Words) {
+    put(o, 10);
+}
+
+// An answer that goes on, with some bytes and then more words, is written out so far.
+pub fn begin(o: Words, s: &[u8]) {
+    put(o, 32);
+    io::write_all(STDOUT_FILENO, s);
+    io::write_all(STDOUT_FILENO, b" ");
 }
 
 // A line is written out as it came.

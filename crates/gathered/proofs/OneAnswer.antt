@@ -6,6 +6,7 @@
 use mathlib.Core.Path.{_≡_, sym, ap, ap₂, _∙_}
 use Rattle.numbers.proofs.OneAnswer.{one-answer}
 use lib.Ieee.{Float}
+use contract.Lifetimes.{Lfts}
 use Rattle.sines.specs.declared.core.Turn.{Turn}
 use Rattle.numbers.specs.Answers as numbers
 use Rattle.numbers.proofs.OneAnswer as numbers-one
@@ -19,6 +20,8 @@ use Rattle.steps.specs.Answers as steps
 use Rattle.steps.proofs.OneAnswer as steps-one
 use Rattle.joints.specs.Answers as joints
 use Rattle.joints.proofs.OneAnswer as joints-one
+use Rattle.poses.specs.Answers as poses
+use Rattle.poses.proofs.OneAnswer as poses-one
 use Rattle.walks.proofs.OneAnswer as walks-one
 use Rattle.numbers.proofs.absolute.Reads as numbers-absolute
 use Rattle.numbers.proofs.min.Reads as numbers-min
@@ -200,6 +203,8 @@ use Rattle.joints.proofs.core.calculate_ik_strict.Reads as joints-core-calculat
 use Rattle.joints.proofs.core.from_motor.Reads as joints-core-from-motor
 use Rattle.joints.proofs.core.calculate_fk_for_leg.Reads as joints-core-calculate-fk-for-leg
 use Rattle.joints.proofs.core.calculate_fk.Reads as joints-core-calculate-fk
+use Rattle.poses.proofs.from_json.Reads as poses-from-json
+use Rattle.poses.proofs.to_json.Reads as poses-to-json
 
 -- no two answers meet the contract C
 abbrev pub Settled : {I A : Type 0} → (I → A → I → Type 0) → Type 0
@@ -215,6 +220,10 @@ same-turn a b s c = ap₂ turn s c
   where
     turn : Float → Float → Turn
     turn x y = record { sine = x; cosine = y }
+
+-- bytes are lent: no two answers, and no two rows at the end, meet the contract
+abbrev pub SettledRow : {I A H R : Type 0} → (H → R) → (I → A → H → Type 0) → Type 0
+SettledRow {I} {A} {H} row C = (i : I) (a b : A) (h k : H) → C i a h → C i b k → (a ≡ b) × (row h ≡ row k)
 
 -- ---- numbers
 pub settled-numbers-absolute : Settled (numbers-absolute.Post tt)
@@ -767,3 +776,10 @@ settled-joints-core-calculate-fk-for-leg i = one-value
 
 pub settled-joints-core-calculate-fk : Settled (joints-core-calculate-fk.Post tt)
 settled-joints-core-calculate-fk i = one-value
+
+-- ---- poses
+pub settled-poses-from-json : (κs : Lfts 1) → Settled (poses-from-json.Post κs)
+settled-poses-from-json κs i = one-answer poses.told poses-one.told-loses-nothing
+
+pub settled-poses-to-json : (κs : Lfts 1) → SettledRow (λ held. held .1 .0 .now) (poses-to-json.Post κs)
+settled-poses-to-json κs i a b h k p q = (one-answer poses.toldWritten poses-one.toldWritten-loses-nothing a b (p .0) (q .0), p .1 ∙ sym (q .1))

@@ -58,3 +58,12 @@ pub use Rattle.joints.specs.Answers as JointsAnswers
 pub use Rattle.joints.specs.Inverse as JointsInverse
 pub use Rattle.joints.specs.Strict as JointsStrict
 pub use Rattle.joints.specs.Forward as JointsForward
+pub use Rattle.lines.specs.Digits as LinesDigits
+pub use Rattle.lines.specs.Fields as LinesFields
+pub use Rattle.poses.specs.Decimals as PosesDecimals
+pub use Rattle.poses.specs.Json as PosesJson
+pub use Rattle.poses.specs.How as PosesHow
+pub use Rattle.poses.specs.Names as PosesNames
+pub use Rattle.poses.specs.Answers as PosesAnswers
+pub use Rattle.poses.specs.Reading as PosesReading
+pub use Rattle.poses.specs.Writing as PosesWriting

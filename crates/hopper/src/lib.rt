@@ -31,7 +31,7 @@ pub mod legs {
     pub use gathered::updated_from_selected_legs;
 }
 
-// One step towards a target, states that step, the walk that ends, the longest distance.
+// One step towards a target, states that step, the walk that ends, the longest distance; poses as JSON.
 pub mod foot_moves {
     pub use gathered::FeetIter;
     pub use gathered::FeetStep;
@@ -41,13 +41,19 @@ pub mod foot_moves {
     pub use gathered::MovingPoint;
     pub use gathered::NextFeet;
     pub use gathered::NextPoint;
+    pub use gathered::OptionalFoot;
+    pub use gathered::OptionalLegPositions;
     pub use gathered::PointIter;
+    pub use gathered::PoseRead;
+    pub use gathered::PoseWritten;
     pub use gathered::Towards;
     pub use gathered::Walked;
     pub use gathered::feet_to_move_towards_iter;
+    pub use gathered::from_json;
     pub use gathered::longest_distance;
     pub use gathered::move_feet_towards;
     pub use gathered::move_towards;
+    pub use gathered::to_json;
     pub use gathered::to_move_towards_iter;
     pub use gathered::walk;
     pub use gathered::walk_feet;

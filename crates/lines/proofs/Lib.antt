@@ -2,7 +2,7 @@ pub mod Flags
 mod Reading
 pub mod Decimal
 pub mod Stores
-mod Numerals
+pub mod Numerals
 mod Widths
 mod Places
 mod Values

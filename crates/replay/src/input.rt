@@ -9,7 +9,7 @@ fn answered(s: &[u8]) {
     if line::is_note(s) {
         text::echo(s);
     } else {
-        text::print(operations::answer(s));
+        operations::print(s);
     }
 }
 

@@ -6,6 +6,7 @@ use fields::Words;
 use fields::line;
 use fields::names;
 use fields::said;
+use fields::text;
 
 // Operations on numbers, legs and foot moves.
 fn answered(name: u64, w: Words) -> Words {
@@ -44,14 +45,23 @@ fn shown(name: u64, answer: Words) -> Words {
     }
 }
 
-// The answer to a line.
-pub fn answer(s: &[u8]) -> Words {
-    let name = line::name(s);
+// The answer to a line with this name.
+fn answer(name: u64, s: &[u8]) -> Words {
     let l = line::read(s, names::shape(name));
     let words = l.words;
     if l.good {
         shown(name, answered(names::operation(name), words))
     } else {
         said::unreadable()
+    }
+}
+
+// The answer to a line is written out.
+pub fn print(s: &[u8]) {
+    let name = line::name(s);
+    match name {
+        names::JREAD => text::print(pose_lines::read(s)),
+        names::JWRITE => pose_lines::write(s),
+        _ => text::print(answer(name, s)),
     }
 }

@@ -18,17 +18,14 @@ div-kind c = search needs
 count-of-requires : tie.Need-count-of-requires Inv-loop μ-loop
 count-of-requires c κs = search needs
 
-add-if2 : tie.Need-add-if2 Inv-loop μ-loop
-add-if2 c = search needs
+add-part-of : tie.Need-add-part-of Inv-loop μ-loop
+add-part-of c = search needs
 
-marks-of-requires : tie.Need-marks-of-requires Inv-loop μ-loop
-marks-of-requires c κs = search needs
+part-of-requires : tie.Need-part-of-requires Inv-loop μ-loop
+part-of-requires c κs = search needs
 
 returns : tie.Need-returns Inv-loop μ-loop
 returns c = search needs
-
-returns-2 : tie.Need-returns-2 Inv-loop μ-loop
-returns-2 c = search needs
 
 loop-less : tie.Need-loop-less Inv-loop μ-loop
 loop-less c = search needs
@@ -36,8 +33,8 @@ loop-less c = search needs
 loop-again : tie.Need-loop-again Inv-loop μ-loop
 loop-again c = search needs
 
-returns-3 : tie.Need-returns-3 Inv-loop μ-loop
-returns-3 c = search needs
+returns-2 : tie.Need-returns-2 Inv-loop μ-loop
+returns-2 c = search needs
 
 pub kind-of-spec : {M : Type 1} → statement M
 kind-of-spec =
@@ -48,10 +45,9 @@ kind-of-spec =
     loop-holds
     div-kind
     count-of-requires
-    add-if2
-    marks-of-requires
+    add-part-of
+    part-of-requires
     returns
-    returns-2
     loop-less
     loop-again
-    returns-3)
+    returns-2)

@@ -42,8 +42,8 @@ mul-words c = search needs
 array-write-words : tie.Need-array-write-words Inv-loop μ-loop
 array-write-words c = search needs
 
-after-requires : tie.Need-after-requires Inv-loop μ-loop
-after-requires c κs = search needs
+after-field-requires : tie.Need-after-field-requires Inv-loop μ-loop
+after-field-requires c κs = search needs
 
 loop-less : tie.Need-loop-less Inv-loop μ-loop
 loop-less c = search needs
@@ -82,7 +82,7 @@ read-spec =
     field-requires
     mul-words
     array-write-words
-    after-requires
+    after-field-requires
     loop-less
     loop-again
     array-read-next-said-2

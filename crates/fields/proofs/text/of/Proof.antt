@@ -5,10 +5,10 @@ use Rattle.fields.proofs.text.of.Statement.{statement}
 use Rattle.fields.proofs.text.of.Tie as tie
 
 abbrev Inv-loop : tie.InvT-loop
-Inv-loop o t₀ i₀ t i = i < 256
+Inv-loop last o t₀ i₀ t i = i < 256
 
 abbrev μ-loop : tie.MeasureT-loop
-μ-loop o t₀ i₀ t i = i
+μ-loop last o t₀ i₀ t i = i
 
 before-requires : tie.Need-before-requires Inv-loop μ-loop
 before-requires c κs = search needs
