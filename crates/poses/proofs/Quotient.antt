@@ -1,9 +1,9 @@
 -- The quotient that `nearest_bits` rounds: n moved up to 52 binary digits and divided by 10 ^ 8 has 25 or 26, and what rounding their first
 -- 25 gives is inside of half a step.
-use mathlib.Core.Path.{_≡_, ap, _∙_}
+use mathlib.Core.Path.{_≡_, sym, ap, _∙_, subst, subst₂}
 use mathlib.Core.Logic.{inl, inr}
 use Prim.Native.Nat.{ℕ, suc, _+_, _-_, _*_, _/_, _%_, _^_, _≤_, _<_}
-use native.Mathlib.Nat.{lt-of-lt-of-le, mod-eq-of-lt, mul-left-comm, pow-succ', div-add-mod', mod-lt}
+use native.Mathlib.Nat.{add-zero, div-one, lt-of-lt-of-le, mod-eq-of-lt, mul-left-comm, pow-succ', div-add-mod', mod-lt}
 use native.Mathlib.Omega.{arith}
 use lib.Count.{leadingZeros}
 use lib.Dec.{lit≤}
@@ -20,6 +20,10 @@ moves n = leadingZeros 64 n - 12
 
 abbrev pub quotient : ℕ → ℕ
 quotient n = n * 2 ^ moves n % 2 ^ 64 / 100000000
+
+-- how many digits the quotient has more than 25
+abbrev pub more : ℕ → ℕ
+more q = q / 33554432
 
 module _ (n : ℕ) (p : 0 < n) (h : n < 10 ^ 9) where
   pub moved : Moved n 29 51 12 (leadingZeros 64 n)
@@ -49,7 +53,7 @@ module _ (n : ℕ) (p : 0 < n) (h : n < 10 ^ 9) where
       let m : n * 2 ^ moves n < 2 ^ 52 = moved .high in
       omega arith
 
-  pub of-25 : quotient n < 2 ^ 25 → Inside (n * unity) wholeDecimals ((quotient n + 1) / 2) (150 - moves n)
+  of-25 : quotient n < 2 ^ 25 → Inside (n * unity) wholeDecimals ((quotient n + 1) / 2) (150 - moves n)
   of-25 l =
       let a : 22 ≤ moves n = moves-least in
       let b : moves n ≤ 51 = moves-most in
@@ -58,7 +62,7 @@ module _ (n : ℕ) (p : 0 < n) (h : n < 10 ^ 9) where
       (ap (λ (x : ℕ). x * wholeDecimals + A % wholeDecimals) quotient-is ∙ div-add-mod' A wholeDecimals)
       (mod-lt A (lit≤ tt)) quotient-low l
 
-  pub of-26 : 2 ^ 25 ≤ quotient n → Inside (n * unity) wholeDecimals ((quotient n / 2 + 1) / 2) (150 - moves n + 1)
+  of-26 : 2 ^ 25 ≤ quotient n → Inside (n * unity) wholeDecimals ((quotient n / 2 + 1) / 2) (150 - moves n + 1)
   of-26 l =
       let a : 22 ≤ moves n = moves-least in
       let b : moves n ≤ 51 = moves-most in
@@ -80,8 +84,19 @@ module _ (n : ℕ) (p : 0 < n) (h : n < 10 ^ 9) where
       half : (q : ℕ) → q < 2 ^ 26 → q / 2 < 2 ^ 25
       half q h = omega arith
 
-  pub some-inside : (m : ℕ) × (k : ℕ) × Inside (n * unity) wholeDecimals m k
-  some-inside = elim (le-or-lt (2 ^ 25) (quotient n)) [
-    | inl l ↦ ((quotient n / 2 + 1) / 2, 150 - moves n + 1, of-26 l)
-    | inr l ↦ ((quotient n + 1) / 2, 150 - moves n, of-25 l)
+  -- either way, by how many digits it has more than 25
+  pub rounded-inside : Inside (n * unity) wholeDecimals ((quotient n / 2 ^ more (quotient n) + 1) / 2) (150 - moves n + more (quotient n))
+  rounded-inside = elim (le-or-lt (2 ^ 25) (quotient n)) [
+    | inl l ↦
+        let one : more (quotient n) ≡ 1 = omega (arith, quotient-high) in
+        subst (λ (d : ℕ). Inside (n * unity) wholeDecimals ((quotient n / 2 ^ d + 1) / 2) (150 - moves n + d)) (sym one) (of-26 l)
+    | inr l ↦
+        let none : more (quotient n) ≡ 0 = omega arith in
+        let k : 150 - moves n + 0 ≡ 150 - moves n = add-zero (150 - moves n) in
+        let m : quotient n / 2 ^ 0 ≡ quotient n = div-one (quotient n) in
+        subst (λ (d : ℕ). Inside (n * unity) wholeDecimals ((quotient n / 2 ^ d + 1) / 2) (150 - moves n + d)) (sym none)
+        (subst₂ (λ (x y : ℕ). Inside (n * unity) wholeDecimals ((x + 1) / 2) y) (sym m) (sym k) (of-25 l))
   ]
+
+  pub some-inside : (m : ℕ) × (k : ℕ) × Inside (n * unity) wholeDecimals m k
+  some-inside = ((quotient n / 2 ^ more (quotient n) + 1) / 2, 150 - moves n + more (quotient n), rounded-inside)

@@ -4,14 +4,14 @@ use mathlib.Core.Path.{_≡_, refl, sym, ap, _∙_}
 use mathlib.Core.Logic.{inl, inr}
 use mathlib.Core.Bool.{false}
 use Prim.Native.Nat.{ℕ, _+_, _-_, _*_, _/_, _^_, _≤_, _<_}
-use native.Mathlib.Nat.{eq-zero-or-pos}
+use native.Mathlib.Nat.{eq-zero-or-pos, div-le-self}
 use native.Mathlib.Omega.{arith}
 use lib.Count.{leadingZeros}
 use lib.Dec.{lit<}
 use lib.Ieee.{binary32, ofBits}
 use borrow.Author.Needs.{needs}
 use Rattle.poses.specs.Decimals.{readAs}
-use Rattle.poses.proofs.Quotient.{moves, quotient, moved, moves-most, quotient-high, of-25, of-26}
+use Rattle.poses.proofs.Quotient.{moves, quotient, moved, moves-most, quotient-high, more, rounded-inside}
 use Rattle.poses.proofs.Reading.{read-bits}
 use Rattle.poses.proofs.decimals.nearest_bits.Statement.{statement}
 use Rattle.poses.proofs.decimals.nearest_bits.Tie as tie
@@ -53,58 +53,42 @@ cast-k c = omega (arith, few c)
 sub-k : tie.Need-sub-k
 sub-k c = omega (arith, few c)
 
-mul-result : tie.Need-mul-result
-mul-result c = search needs
-
 add-result : tie.Need-add-result
 add-result c = search needs
 
-add-result-2 : tie.Need-add-result-2
-add-result-2 c = search needs
+mul-result : tie.Need-mul-result
+mul-result c = search needs
 
-cast-result : tie.Need-cast-result
-cast-result c = search needs
+-- one digit more at most, and no more digits than the quotient has
+one-more : (c : tie.Else1) → more (quotient (parts c)) ≤ 1
+one-more c = omega (arith, small c)
+
+cut : (c : tie.Else1) → quotient (parts c) / 2 ^ more (quotient (parts c)) ≤ quotient (parts c)
+cut c = div-le-self (quotient (parts c)) (2 ^ more (quotient (parts c)))
+
+shr-result : tie.Need-shr-result
+shr-result c = omega (arith, one-more c)
+
+add-result-2 : tie.Need-add-result-2
+add-result-2 c = omega (arith, cut c, small c)
 
 add-result-3 : tie.Need-add-result-3
-add-result-3 c = search needs
-
-mul-result-2 : tie.Need-mul-result-2
-mul-result-2 c = search needs
-
-add-result-4 : tie.Need-add-result-4
-add-result-4 c = search needs
-
-add-result-5 : tie.Need-add-result-5
-add-result-5 c = search needs
+add-result-3 c = omega (arith, cut c, small c, one-more c)
 
 -- the pattern is below that of the sign, whatever the digits round to
-bits-low : (z m : ℕ) → m < 2 ^ 25 → (150 - z) * 8388608 + m < 2 ^ 31
-bits-low z m h = omega arith
+bits-low : (z h m : ℕ) → h ≤ 1 → m < 2 ^ 26 → (150 - z + h) * 8388608 + m < 2 ^ 31
+bits-low z h m few below = omega arith
 
-bits-high : (z m : ℕ) → m < 2 ^ 26 → (150 - z + 1) * 8388608 + m < 2 ^ 31
-bits-high z m h = omega arith
-
-cast-result-2 : tie.Need-cast-result-2
-cast-result-2 c = omega (arith, small (c .before))
+cast-result : tie.Need-cast-result
+cast-result c = omega (arith, cut c, small c, one-more c)
 
 returns-2 : tie.Need-returns-2
 returns-2 c =
-    let n = parts (c .before) in
+    let n = parts c in
     let q = quotient n in
-    let k = 150 - moves n in (
-      bits-low (moves n) _ (omega (arith, c .if2 .taken)),
-      read-bits n ((q + 1) / 2) k (c .before .before .pre) (omega arith)
-          (of-25 n (some (c .before)) (c .before .before .pre) (c .if2 .taken)),
-    )
-
-returns-3 : tie.Need-returns-3
-returns-3 c =
-    let n = parts (c .before) in
-    let q = quotient n in
-    let k = 150 - moves n in (
-      bits-high (moves n) _ (omega (arith, small (c .before))),
-      read-bits n ((q / 2 + 1) / 2) (k + 1) (c .before .before .pre) (omega arith)
-          (of-26 n (some (c .before)) (c .before .before .pre) (c .if2 .left)),
+    let k = 150 - moves n + more q in (
+      bits-low (moves n) (more q) _ (one-more c) (omega (arith, cut c, small c)),
+      read-bits n ((q / 2 ^ more q + 1) / 2) k (c .before .pre) (omega (arith, one-more c)) (rounded-inside n (some c) (c .before .pre)),
     )
 
 pub nearest-bits-spec : {M : Type 1} → statement M
@@ -117,14 +101,10 @@ nearest-bits-spec =
     shl-q
     cast-k
     sub-k
-    mul-result
     add-result
+    mul-result
+    shr-result
     add-result-2
-    cast-result
     add-result-3
-    mul-result-2
-    add-result-4
-    add-result-5
-    cast-result-2
-    returns-2
-    returns-3)
+    cast-result
+    returns-2)
