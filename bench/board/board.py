@@ -21,6 +21,7 @@ ROOM = {
     "next_point": "moves", "feet_iter": "moves", "next_feet": "moves", "longest_distance": "moves", "walk": "walks",
     "walk_feet": "walks", "invert": "commands", "flag": "commands", "default": "commands", "new": "commands",
     "command": "commands", "should_move": "commands", "plan": "planner", "ik": "joints", "ik_strict": "joints", "fk": "joints",
+    "from_json": "poses", "to_json": "poses",
 }
 # Entries once more, with the state after a step: for bench/every alone, counted nowhere.
 ONCE_MORE = ["probe_next_step", "probe_next_timed", "probe_next_even"]
@@ -41,7 +42,7 @@ def tool(name, *words):
 
 def room(name):
     if name.startswith("probe_"):
-        return ROOM.get(name[6:], "steps")
+        return ROOM.get(name[6:].split(".")[0], "steps")
     return name.split("::")[0] if "::" in name else "shared constants"
 
 
