@@ -1,13 +1,14 @@
 #!/usr/bin/env python3
-"""instructions.py FOLDER [OPERATION ..]: instructions a call of every operation of FOLDER's `side_by_side`, or of those named, ours and the
-plain Rust reading's; of a walk the whole walk. Callgrind counts the program with one operation and one side over 1 round and over 3:
+"""instructions.py FOLDER [OPERATION ..]: instructions a call of every operation of FOLDER's `side_by_side` and `poses`, or of those named, ours
+and the plain Rust reading's; of a walk the whole walk. Callgrind counts the program with one operation and one side over 1 round and over 3:
 what they differ by is that of two rounds. It is not asked who called whom, which it gets wrong on Arm. The last line has the sums of
 both sides, and their ratio."""
 import re
 import subprocess
 import sys
 
-PROGRAM = sys.argv[1] + "/side_by_side"
+# With the words between the rounds and the operation.
+PROGRAMS = {sys.argv[1] + "/side_by_side": [], sys.argv[1] + "/poses": ["0"]}
 INPUTS = 1024  # calls in a round, as in side_by_side.rs
 ROUNDS = (1, 3)
 # One call a round.
@@ -19,18 +20,19 @@ def run(*words):
 
 
 def operations():
-    """As the program lists them: a name of 27 places, then numbers."""
-    names = [line[:27].strip() for line in run(PROGRAM, "1").stdout.splitlines()[1:]]
-    return [name for name in names if name not in LEFT_OUT]
+    """As the programs list them, a name of 27 places, then numbers; each with its program."""
+    found = [(line[:27].strip(), p) for p, words in PROGRAMS.items() for line in run(p, "1", *words).stdout.splitlines()[1:]]
+    return {name: program for name, program in found if name not in LEFT_OUT}
 
 
-def count(*words):
-    said = run("valgrind", "--tool=callgrind", "--callgrind-out-file=/dev/null", PROGRAM, *words).stderr
+def count(program, rounds, *words):
+    every = [program, str(rounds), *PROGRAMS[program], *words]
+    said = run("valgrind", "--tool=callgrind", "--callgrind-out-file=/dev/null", *every).stderr
     return int(re.search(r"Collected : (\d+)", said).group(1))
 
 
 def a_call(name, side):
-    less, more = (count(str(rounds), name, side) for rounds in ROUNDS)
+    less, more = (count(known[name], rounds, name, side) for rounds in ROUNDS)
     return (more - less) / (ROUNDS[1] - ROUNDS[0]) / INPUTS
 
 

@@ -344,7 +344,7 @@ def strange_name(r):
     known = r.choice(ROW_ORDER)
     k = r.randrange(len(known))
     return '"%s"' % r.choice([
-        "", "x", known[:k], known[k + 1 :], known.upper(), known.capitalize(), known + " ", " " + known, known + "\0".replace("\0", "t"),
+        "", "x", known[:k], known[k + 1 :], known.upper(), known.capitalize(), known + " ", " " + known, known + "t",
         known[:k] + "\\u%04x" % ord(known[k]) + known[k + 1 :], known[:k] + chr(ord(known[k]) ^ 1) + known[k + 1 :], known.replace("_", "-"),
         known[:k] + character(r) + known[k + 1 :], "".join(character(r) for _ in range(r.randrange(1, 40)))])
 
@@ -575,9 +575,9 @@ def random_pose(r, nulls=0.2):
     return {n: None if r.random() < nulls else [pattern(r) for _ in range(3)] for n in ROW_ORDER}
 
 
-def both_ways(line_of, pose):
+def both_ways(line, pose):
     """Written, and the written text read."""
-    yield line_of
+    yield line
     yield jread(text_of(pose).encode())
 
 
@@ -588,7 +588,7 @@ def writes(r):
     ties = [nearest(Fraction(k, 512)) + d for k in range(1, 2048, 2) for d in (0, -1, 1)]
     tiny = [b + d for b in NEAR_ZERO + EDGES for d in range(-3, 4) if 0 <= b + d <= 0x40800000]
     powers = [(e << 23) + d for e in range(1, 130) for d in (-1, 0, 1) if (e << 23) + d <= 0x40800000]
-    low = [nearest(midpoint) for midpoint in (Fraction(2 * k + 1, 2 * 10**8) for k in range(40))]
+    low = [nearest(Fraction(2 * k + 1, 2 * 10**8)) for k in range(40)]
     every = [b | s << 31 for b in ties + tiny + powers + [b + d for b in low for d in (-1, 0, 1)] for s in (0, 1)]
     for k in range(0, len(every), 18):
         row = (every[k : k + 18] * 18)[:18]
