@@ -29,14 +29,14 @@ fn byte(row: &mut [u8], at: usize, b: u8) -> usize
 }
 
 // The byte of a number's last digit.
-fn digit(n: u64) -> u8
+fn digit(n: u32) -> u8
     ensures { λ r. ⌜ r ≡ digit (n % 10) ⌝ }
 {
     48 + (n % 10) as u8
 }
 
 // Eight digits.
-fn eight(row: &mut [u8], at: usize, n: u64) -> usize
+fn eight(row: &mut [u8], at: usize, n: u32) -> usize
     requires { ⌜ at + 8 ≤ length (now row) ⌝ }
     ensures { λ r. ⌜ Stored (now (row .entry)) at (numeral 10 8 n) r (now (row .exit)) ⌝ }
 {
@@ -59,7 +59,7 @@ fn eight(row: &mut [u8], at: usize, n: u64) -> usize
 }
 
 // One digit, a point, eight digits.
-fn parts(row: &mut [u8], at: usize, n: u64) -> usize
+fn parts(row: &mut [u8], at: usize, n: u32) -> usize
     requires { ⌜ (at + 10 ≤ length (now row)) × (n < 10 ^ 9) ⌝ }
     ensures { λ r. ⌜ Stored (now (row .entry)) at (partsText n) r (now (row .exit)) ⌝ }
 {
@@ -83,7 +83,7 @@ fn number(row: &mut [u8], at: usize, x: f32) -> usize
     ensures { λ r. ⌜ Stored (now (row .entry)) at (numberText x) r (now (row .exit)) × (r ≤ at + 11) ⌝ }
 {
     let a = minus(row, at, 0x8000_0000 <= f32::to_bits(x));
-    parts(row, a, decimals::written_as(x))
+    parts(row, a, decimals::written_as(x) as u32)
 }
 
 // A list of three numbers.

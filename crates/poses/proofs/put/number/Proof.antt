@@ -34,13 +34,18 @@ written-as-requires c κs = search needs
 near : (c : tie.After-minus) → c .minus .result ≤ c .before .before .before .args .at + 1
 near c = c .minus .ensures .1
 
-parts-requires : tie.Need-parts-requires
-parts-requires c κs =
+-- what is written has nine digits
+few : (c : tie.After-written-as) → c .written-as .result ≤ 4 * 10 ^ 8
+few c =
     let start = c .before .before .before .before .before .before .before in
     let x = start .args .x in
-    let few : writtenAs x ≤ 4 * 10 ^ 8 = written-below x (subst T (sym (start .good .1 .1 .0 .1)) tt) (start .pre .1) in
-    let is : c .written-as .result ≡ writtenAs x = c .written-as .ensures in
-    (omega (arith, near (c .before .before .before .before)), omega (arith, few, is))
+    rw (c .written-as .ensures) (written-below x (subst T (sym (start .good .1 .1 .0 .1)) tt) (start .pre .1))
+
+cast-parts : tie.Need-cast-parts
+cast-parts c = record { fits = omega (arith, few c) }
+
+parts-requires : tie.Need-parts-requires
+parts-requires c κs = (omega (arith, near (c .before .before .before .before)), omega (arith, few c))
 
 same-length : tie.Need-same-length
 same-length c = search needs
@@ -67,6 +72,7 @@ number-spec =
     float-to-bits-minus
     minus-requires
     written-as-requires
+    cast-parts
     parts-requires
     same-length
     returns)
