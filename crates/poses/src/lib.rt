@@ -58,6 +58,7 @@ pub fn from_json(text: &[u8]) -> PoseRead
     }
 }
 
+// Whether no coordinate is NaN or infinite; null has none.
 fn foot_finite(f: OptionalFoot) -> bool
     ensures { λ r. ⌜ r ≡ footFinite f ⌝ }
 {
@@ -67,6 +68,7 @@ fn foot_finite(f: OptionalFoot) -> bool
     }
 }
 
+// Whether every coordinate is within the table; null has none.
 fn foot_permitted(f: OptionalFoot) -> bool
     ensures { λ r. ⌜ r ≡ footPermitted f ⌝ }
 {
@@ -79,6 +81,7 @@ fn foot_permitted(f: OptionalFoot) -> bool
     }
 }
 
+// Whether no coordinate of a pose is NaN or infinite.
 fn pose_finite(p: OptionalLegPositions) -> bool
     ensures { λ r. ⌜ r ≡ poseFinite p ⌝ }
 {
@@ -96,6 +99,7 @@ fn pose_finite(p: OptionalLegPositions) -> bool
         & foot_finite(right_rear)
 }
 
+// Whether every coordinate of a pose is within the table.
 fn pose_permitted(p: OptionalLegPositions) -> bool
     ensures { λ r. ⌜ r ≡ posePermitted p ⌝ }
 {

@@ -90,24 +90,28 @@ pub fn leg_named(s: &[u8], from: usize, to: usize) -> u32
     }
 }
 
+// A byte behind the first of a character.
 fn is_tail(b: u8) -> bool
     ensures { λ r. ⌜ r ≡ isTail b ⌝ }
 {
     (128 <= b) & (b <= 191)
 }
 
+// Whether a byte lies between two, both permitted.
 fn is_between(low: u8, high: u8, b: u8) -> bool
     ensures { λ r. ⌜ r ≡ between low high b ⌝ }
 {
     (low <= b) & (b <= high)
 }
 
+// A hex digit of either case.
 fn is_hex(b: u8) -> bool
     ensures { λ r. ⌜ r ≡ isHex b ⌝ }
 {
     is_between(48, 57, b) | is_between(65, 70, b) | is_between(97, 102, b)
 }
 
+// What may stand behind a backslash, but for u.
 fn is_escape(b: u8) -> bool
     ensures { λ r. ⌜ r ≡ isEscape b ⌝ }
 {
@@ -128,6 +132,7 @@ fn many_where(t: bool, n: usize) -> usize
     if t { n } else { 0 }
 }
 
+// The first where the test holds, else the second.
 fn chosen(t: bool, x: u8, y: u8) -> u8
     ensures { λ r. ⌜ r ≡ choose t x y ⌝ }
 {

@@ -42,6 +42,7 @@ fn leg_between(s: &[u8], from: usize, end: usize) -> u32
     }
 }
 
+// A name, a colon, a value.
 fn member(s: &[u8], i: usize) -> MemberRead
     ensures { λ r. ⌜ r ≡ memberRead (now (s .entry)) i ⌝ }
 {
@@ -151,6 +152,7 @@ pub fn read(s: &[u8]) -> Progress
     members(s, i)
 }
 
+// Whether a leg has its value, null or a point.
 fn has(slot: Slot) -> bool
     ensures { λ r. ⌜ r ≡ hasValue slot ⌝ }
 {
@@ -189,6 +191,7 @@ fn foot_of(slot: Slot) -> OptionalFoot
     }
 }
 
+// The pose of six legs in row order.
 pub fn pose_of(slots: [Slot; 6]) -> OptionalLegPositions
     ensures { λ r. ⌜ r ≡ poseFrom slots ⌝ }
 {

@@ -20,6 +20,7 @@ ghost use Rattle.poses.specs.Names.{nameAt};
 ghost use Rattle.poses.specs.Writing.{minusText, partsText, numberText, pointText, footText, namedText, poseText};
 ghost use Rattle.poses.specs.Writing.{footPermitted, posePermitted};
 
+// One byte.
 fn byte(row: &mut [u8], at: usize, b: u8) -> usize
     requires { ⌜ at + 1 ≤ length (now row) ⌝ }
     ensures { λ r. ⌜ Stored (now (row .entry)) at (b ∷ []) r (now (row .exit)) ⌝ }
@@ -68,6 +69,7 @@ fn parts(row: &mut [u8], at: usize, n: u32) -> usize
     eight(row, b, n % 100_000_000)
 }
 
+// The minus, where there is one.
 fn minus(row: &mut [u8], at: usize, is_minus: bool) -> usize
     requires { ⌜ at + 1 ≤ length (now row) ⌝ }
     ensures { λ r. ⌜ Stored (now (row .entry)) at (minusText «is_minus») r (now (row .exit)) × (r ≤ at + 1) ⌝ }
@@ -78,6 +80,7 @@ fn minus(row: &mut [u8], at: usize, is_minus: bool) -> usize
     at
 }
 
+// A number: its sign, one digit, a point, eight digits.
 fn number(row: &mut [u8], at: usize, x: f32) -> usize
     requires { ⌜ (at + 11 ≤ length (now row)) × T (permits footLimit x) ⌝ }
     ensures { λ r. ⌜ Stored (now (row .entry)) at (numberText x) r (now (row .exit)) × (r ≤ at + 11) ⌝ }
@@ -100,6 +103,7 @@ fn point(row: &mut [u8], at: usize, p: Point) -> usize
     byte(row, z, b']')
 }
 
+// null.
 fn null(row: &mut [u8], at: usize) -> usize
     requires { ⌜ at + 4 ≤ length (now row) ⌝ }
     ensures { λ r. ⌜ Stored (now (row .entry)) at nullWord r (now (row .exit)) ⌝ }
@@ -111,6 +115,7 @@ fn null(row: &mut [u8], at: usize) -> usize
     at + 4
 }
 
+// A foot or null. Its mark is not written.
 fn foot(row: &mut [u8], at: usize, f: OptionalFoot) -> usize
     requires { ⌜ (at + 37 ≤ length (now row)) × (footPermitted f ≡ true) ⌝ }
     ensures { λ r. ⌜ Stored (now (row .entry)) at (footText f) r (now (row .exit)) × (r ≤ at + 37) ⌝ }

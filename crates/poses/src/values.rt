@@ -51,6 +51,7 @@ fn power(k: usize) -> u64
     }
 }
 
+// 0 to 9.
 fn is_digit(b: u8) -> bool
     ensures { λ r. ⌜ r ≡ isDigit b ⌝ }
 {
@@ -78,6 +79,7 @@ fn run_of(s: &[u8], from: usize, first: u64) -> Run
     Run { parts: n, taken: 8 }
 }
 
+// A number that ends before a place.
 fn number_to(minus: bool, parts: u64, next: usize) -> NumberRead
     ensures { λ r. ⌜ r ≡ record { minus = minus; parts = parts; next = next } ⌝ }
 {
@@ -103,6 +105,7 @@ fn amount(s: &[u8], i: usize, minus: bool) -> NumberRead
     number_to(minus, run.parts, i + 2 + run.taken)
 }
 
+// A number: maybe a minus, then its digits.
 fn number(s: &[u8], i: usize) -> NumberRead
     ensures { λ r. ⌜ (r ≡ numberRead (now (s .entry)) i) × (r .parts < 10 ^ 9) ⌝ }
 {
@@ -120,6 +123,7 @@ pub fn no_slot() -> Slot
     slot_without(0)
 }
 
+// A leg that has no point.
 fn slot_without(kind: u32) -> Slot
     ensures { λ r. ⌜ r ≡ noSlot kind ⌝ }
 {
