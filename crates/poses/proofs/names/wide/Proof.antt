@@ -1,7 +1,9 @@
 -- `poses::names::wide` meets its contract: the first byte says of how many bytes a character is, if of any.
 use mathlib.Core.Path.{_≡_, sym, _∙_}
-use mathlib.Core.Bool.{false}
+use mathlib.Core.Bool.{true, false}
+use lib.Dec.{eqb}
 use borrow.Author.Needs.{needs}
+use Rattle.numbers.specs.Told.{choose}
 use Rattle.poses.specs.How.{between, wide}
 use Rattle.poses.proofs.names.wide.Statement.{statement}
 use Rattle.poses.proofs.names.wide.Tie as tie
@@ -19,7 +21,8 @@ returns : tie.Need-returns
 unfolding wide
 returns c =
     let branch = c .before .before in
-    simp (c .many-where .ensures, c .before .is-tail .ensures, sym (branch .before .is-between .ensures) ∙ branch .if1 .taken)
+    let two : between 194 223 (branch .before .before .args .a) ≡ true = sym (branch .before .is-between .ensures) ∙ branch .if1 .taken in
+    simp (c .many-where .ensures, c .before .is-tail .ensures, two)
 
 is-between-requires-2 : tie.Need-is-between-requires-2
 is-between-requires-2 c κs = search needs
@@ -50,12 +53,16 @@ returns-2 : tie.Need-returns-2
 unfolding wide
 returns-2 c =
     let branch = c .before .before .before .before .before in
+    let a = branch .before .before .before .before .args .a in
+    let low : c .before .before .before .before .chosen .result ≡ choose (eqb a 224) 160 128 =
+    c .before .before .before .before .chosen .ensures in
+    let high : c .before .before .before .chosen2 .result ≡ choose (eqb a 237) 159 191 = c .before .before .before .chosen2 .ensures in
     simp (
       c .many-where2 .ensures,
       c .before .is-tail2 .ensures,
       c .before .before .is-between3 .ensures,
-      c .before .before .before .chosen2 .ensures,
-      c .before .before .before .before .chosen .ensures,
+      high,
+      low,
       sym (branch .before .is-between2 .ensures) ∙ branch .if2 .taken,
       no-two (branch .before .before),
     )
@@ -85,13 +92,18 @@ returns-3 : tie.Need-returns-3
 unfolding wide
 returns-3 c =
     let branch = c .before .before .before .before .before .before in
+    let a = branch .before .before .before .before .before .before .args .a in
+    let low : c .before .before .before .before .before .chosen3 .result ≡ choose (eqb a 240) 144 128 =
+    c .before .before .before .before .before .chosen3 .ensures in
+    let high : c .before .before .before .before .chosen4 .result ≡ choose (eqb a 244) 143 191 =
+    c .before .before .before .before .chosen4 .ensures in
     simp (
       c .many-where3 .ensures,
       c .before .is-tail4 .ensures,
       c .before .before .is-tail3 .ensures,
       c .before .before .before .is-between5 .ensures,
-      c .before .before .before .before .chosen4 .ensures,
-      c .before .before .before .before .before .chosen3 .ensures,
+      high,
+      low,
       sym (branch .before .is-between4 .ensures) ∙ branch .if3 .taken,
       no-three (branch .before .before),
       no-two (branch .before .before .before .before),

@@ -1,6 +1,8 @@
 -- `poses::values::null_at` meets its contract.
+use mathlib.Core.Path.{_≡_}
 use borrow.Author.Needs.{needs}
 use Rattle.poses.specs.How.{nullAt}
+use Rattle.poses.specs.Gathering.{noSlot}
 use Rattle.poses.proofs.values.null_at.Statement.{statement}
 use Rattle.poses.proofs.values.null_at.Tie as tie
 
@@ -22,9 +24,10 @@ after-requires-4 c κs = search needs
 returns : tie.Need-returns
 unfolding nullAt
 returns c =
+    let null : c .before .slot-without .result ≡ noSlot 1 = c .before .slot-without .ensures in
     simp (
       c .after4 .ensures,
-      c .before .slot-without .ensures,
+      null,
       c .before .before .after3 .ensures,
       c .before .before .before .after2 .ensures,
       c .before .before .before .before .after .ensures,
