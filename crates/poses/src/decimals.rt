@@ -16,8 +16,8 @@ const PARTS: u64 = 100_000_000;
 const LEADING: u64 = 0x80_0000;
 
 // The pattern of the f32 nearest to n parts, without a sign. Moved up to 52 binary digits n is divided once; of the quotient's 25
-// leading digits the last one rounds, which tells, since no tie can be. The quotient has 25 or 26, about as often, so that no branch
-// goes by it.
+// leading digits the last one rounds, which tells, since no tie can be. The quotient has 25 or 26, both often, so that no branch goes
+// by it.
 fn nearest_bits(n: u64) -> u32
     requires { ⌜ n < 10 ^ 9 ⌝ }
     ensures { λ r. ⌜ (r < 2 ^ 31) × (ofBits binary32 r ≡ readAs false n) ⌝ }
