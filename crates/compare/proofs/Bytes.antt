@@ -10,6 +10,7 @@ use lib.Seq.{drop-cons}
 use borrow.Author.Tests.{eqb-true, eq-eqb}
 use Rattle.numbers.specs.Told.{choose}
 use Rattle.numbers.proofs.OnePass.{and-left, and-right}
+use Rattle.numbers.proofs.Flags.{both-ways}
 use Rattle.lines.specs.Fields.{parted}
 use Rattle.lines.specs.Lines.{body, countDigits, Listable}
 use Rattle.lines.specs.Reading.{lineOf}
@@ -102,12 +103,6 @@ other-length a b apart = by-flag (sameBytes a b) refl
     by-flag : (t : Bool) → sameBytes a b ≡ t → t ≡ false
     by-flag true e = absurd (apart (ap length (same-is-equal a b e)))
     by-flag false e = refl
-
-both-ways : (a b : Bool) → (a ≡ true → b ≡ true) → (b ≡ true → a ≡ true) → a ≡ b
-both-ways true true f g = refl
-both-ways true false f g = sym (f refl)
-both-ways false true f g = g refl
-both-ways false false f g = refl
 
 -- a test on values that holds exactly where they are equal is the test on bytes
 module _ (l m : Line) (d : Listable 9 l) (e : Listable 9 m) where

@@ -10,7 +10,7 @@ use lib.Seq.{take-all, drop-drop}
 use borrow.Author.Tests.{lt-ltb, le-ltb}
 use Rattle.lines.specs.Carry.{Held, keep}
 use Rattle.lines.specs.Fields.{newline, span}
-use Rattle.lines.proofs.Flags.{lt-or-le}
+use Rattle.numbers.proofs.Flags.{lt-or-le}
 use Rattle.compare.specs.Seen.{readKept}
 use Rattle.compare.specs.Parts.{Pulled, pulled}
 

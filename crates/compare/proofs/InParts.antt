@@ -27,7 +27,7 @@ use Rattle.compare.specs.Parts.{Side, next, steps}
 use Rattle.compare.specs.declared.seen.Seen.{Seen}
 use Rattle.compare.specs.declared.seen.Seen.the-variants.{Good, Bad, Nothing}
 use Rattle.compare.specs.declared.step.State.{State}
-use Rattle.lines.proofs.Flags.{lt-or-le}
+use Rattle.numbers.proofs.Flags.{lt-or-le}
 use Rattle.compare.proofs.Bytes.{told-by-bytes}
 use Rattle.compare.proofs.Pulling.{next-row}
 

@@ -10,7 +10,7 @@ use borrow.Author.Tests.{ltb-true, ltb-false}
 use Rattle.lines.specs.Carry.{Held, fresh, hasBegun, keep, joined, Lines, linesFrom, withLast}
 use Rattle.lines.specs.Carry as carry
 use Rattle.lines.specs.Fields.{newline, span}
-use Rattle.lines.proofs.Flags.{chosen}
+use Rattle.numbers.proofs.Flags.{chosen}
 use Rattle.lines.proofs.Cutting.{keep-keep, lines-piece, cut-at-newline, span-at-most, begun-kept}
 use Rattle.compare.specs.Seen.{readKept, readLast}
 use Rattle.compare.specs.Rule.{Row, line, broken, none, rowsOf, seen, first, rest}

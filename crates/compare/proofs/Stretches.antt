@@ -11,9 +11,9 @@ use Rattle.numbers.specs.Told.{choose}
 use Rattle.lines.specs.Carry.{fresh}
 use Rattle.lines.specs.Compared.{toldText, hasToldRoom}
 use Rattle.lines.specs.Fields.{newline, span}
-use Rattle.lines.specs.Stored.{Stored}
+use Rattle.numbers.specs.Stored.{Stored}
 use Rattle.lines.specs.declared.compared.Told.{Told}
-use Rattle.lines.proofs.Stores.{stored-more, stored-as, stored-nothing}
+use Rattle.numbers.proofs.Stores.{stored-more, stored-as, stored-nothing}
 use Rattle.compare.specs.Seen.{read}
 use Rattle.compare.specs.Step.{isLast, stepOf}
 use Rattle.compare.specs.Rule.{printed}

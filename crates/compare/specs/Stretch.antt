@@ -5,7 +5,7 @@ use mathlib.Core.Bool.{Bool, true, false}
 use mathlib.Core.List.{List, [], _∷_, _++_}
 use lib.ListN.{length, drop}
 use Rattle.numbers.specs.Told.{choose}
-use Rattle.lines.specs.Stored.{Stored}
+use Rattle.numbers.specs.Stored.{Stored}
 use Rattle.compare.specs.Step.{isLast}
 use Rattle.compare.specs.Rule.{printed}
 use Rattle.compare.specs.Parts.{steps}

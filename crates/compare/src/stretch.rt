@@ -7,7 +7,7 @@ use lines::fields;
 ghost use mathlib.Core.Path.{_≡_};
 ghost use mathlib.Core.List.{[]};
 ghost use Rattle.numbers.specs.Told.{choose};
-ghost use Rattle.lines.specs.Stored.{Stored};
+ghost use Rattle.numbers.specs.Stored.{Stored};
 ghost use Rattle.lines.specs.Compared.{toldText, hasToldRoom};
 ghost use Rattle.compare.specs.Stretch.{stoppedAt, toldAt, Goes, Onward};
 

@@ -1,18 +1,28 @@
 -- Points and feet that are permitted are finite, where the row's ends are. Assumes nothing.
-use mathlib.Core.Path.{_≡_, refl}
+use mathlib.Core.Path.{_≡_, refl, sym, subst}
 use mathlib.Core.Bool.{Bool, true, _&&_}
+use lib.Dec.{T}
+use lib.Ieee.Bits.{is-true}
 use Rattle.numbers.specs.Door.{finite}
 use Rattle.numbers.specs.Limits.{footLimit}
 use Rattle.numbers.specs.declared.door.Limit.{Limit}
 use Rattle.numbers.proofs.OnePass.{FiniteEnds, in-row, both}
 use Rattle.legs.specs.Legs.{Leg, leftFront, rightFront, leftMiddle, rightMiddle, leftRear, rightRear}
 use Rattle.legs.specs.Legs.{every, foot, finitePoint, permittedPoint, finiteFeet, permittedFeet}
+use Rattle.legs.proofs.Laws.{each-of-every}
 use Rattle.legs.specs.declared.Point.{Point}
 use Rattle.legs.specs.declared.Feet.{Feet}
 
 pub all-six : (s t : Leg → Bool) → ((l : Leg) → s l ≡ true → t l ≡ true) → every s ≡ true → every t ≡ true
 all-six s t f =
     both (both (both (both (both (f leftFront) (f rightFront)) (f leftMiddle)) (f rightMiddle)) (f leftRear)) (f rightRear)
+
+-- what every leg passes, each passes, and back
+pub each-true : (t : Leg → Bool) → every t ≡ true → (l : Leg) → t l ≡ true
+each-true t e l = is-true (t l) (each-of-every t (subst T (sym e) tt) l)
+
+pub every-true : (t : Leg → Bool) → ((l : Leg) → t l ≡ true) → every t ≡ true
+every-true t h = all-six (λ l. true) t (λ l e. h l) refl
 
 module _ (l : Limit) (e : FiniteEnds l) where
   pub point-finite : (p : Point) → permittedPoint l p ≡ true → finitePoint p ≡ true

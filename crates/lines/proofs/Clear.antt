@@ -12,7 +12,7 @@ use Rattle.lines.specs.Digits.{digit, numeral, hex, decimalWithin, decim
 use Rattle.lines.specs.Fields.{newline, span}
 use Rattle.lines.specs.Lines.{ended}
 use Rattle.lines.specs.Carry.{Lines, linesFrom, withLast, inputLines}
-use Rattle.lines.proofs.Flags.{chosen}
+use Rattle.numbers.proofs.Flags.{chosen}
 use Rattle.lines.proofs.Cutting.{lines-piece}
 
 abbrev pub Clear : List ℕ → Type 0

@@ -13,7 +13,7 @@ use Rattle.lines.specs.declared.digits.Digits.{Digits}
 use Rattle.numbers.specs.Told.{choose}
 use Rattle.lines.specs.Digits.{digit, valueOf, decimal, push, pushAll, nothingYet, readIn, countOf, leads, noDigits}
 use Rattle.numbers.proofs.OnePass.{and-left, and-right}
-use Rattle.lines.proofs.Flags.{lt-or-le, chosen}
+use Rattle.numbers.proofs.Flags.{lt-or-le, chosen}
 use Rattle.lines.proofs.Values.{digit-of-value, by-bytes}
 use Rattle.lines.proofs.Decimal.{decimal-few, decimal-more, length-positive}
 use Rattle.lines.proofs.Exact.{read-last, push-digit, all-good}

@@ -11,7 +11,7 @@ use lib.ListN.{length, length-append}
 use borrow.Author.Tests.{lt-ltb, le-ltb}
 use Rattle.numbers.specs.Told.{choose}
 use Rattle.lines.specs.Digits.{digit, decimalWithin, decimal}
-use Rattle.lines.proofs.Flags.{lt-or-le}
+use Rattle.numbers.proofs.Flags.{lt-or-le}
 
 -- how far the digits may go does not matter, once it is far enough
 far-enough : (k l n : ℕ) → n < k → n < l → decimalWithin k n ≡ decimalWithin l n

@@ -16,7 +16,7 @@ use Rattle.numbers.specs.Told.{choose}
 use Rattle.lines.specs.Digits.{digit, valueOf, numeral, hex, decimal, push, pushAll}
 use Rattle.lines.specs.Digits.{nothingYet, readIn, hexOf, countOf, leads, noDigits}
 use Rattle.numbers.proofs.OnePass.{and-left, and-right}
-use Rattle.lines.proofs.Flags.{lt-or-le, chosen}
+use Rattle.numbers.proofs.Flags.{lt-or-le, chosen}
 use Rattle.lines.proofs.Values.{value-of-digit, digit-of-value, by-bytes}
 use Rattle.lines.proofs.Numerals.{length-numeral}
 

@@ -1,7 +1,5 @@
-pub mod Flags
 mod Reading
 pub mod Decimal
-pub mod Stores
 pub mod Numerals
 mod Widths
 mod Places

@@ -23,7 +23,7 @@ use Rattle.lines.specs.Parts.{tabbeds, allGood, bitsOf, noField, shortOf
 use Rattle.lines.specs.Lines.{walkWord, lettered, body, Digited, Listable}
 use Rattle.lines.specs.Reading.{spells, named, headerOf, stepCount, stepFields, moved, moveOf, found, lineOf}
 use Rattle.numbers.proofs.OnePass.{and-left, and-right}
-use Rattle.lines.proofs.Flags.{chosen}
+use Rattle.numbers.proofs.Flags.{chosen}
 use Rattle.lines.proofs.Decimal.{length-positive}
 use Rattle.lines.proofs.Counts.{count-back, count-exact}
 use Rattle.lines.proofs.Rows.{each, length-each, parted-each, rows-back, rows-exact, length-bits}

@@ -17,7 +17,7 @@ use Rattle.lines.specs.Digits.{valueOf, push, pushAll, nothingYet, readI
 use Rattle.lines.specs.Fields.{span}
 use Rattle.lines.specs.Reading.{spells}
 use Rattle.numbers.proofs.OnePass.{and-left, and-right}
-use Rattle.lines.proofs.Flags.{chosen}
+use Rattle.numbers.proofs.Flags.{chosen}
 
 module _ (s : List ℕ) (i : ℕ) (h : i < length s) where
   from-on : drop i s ≡ getD s i 0 ∷ drop (i + 1) s

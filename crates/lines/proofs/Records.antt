@@ -14,7 +14,7 @@ use Rattle.numbers.specs.Told.{choose}
 use Rattle.lines.specs.Fields.{AreBits}
 use Rattle.lines.specs.Parts.{tabbeds, allGood, bitsOf}
 use Rattle.lines.specs.Record.{walkLine, walkOf, recordOf}
-use Rattle.lines.proofs.Flags.{chosen}
+use Rattle.numbers.proofs.Flags.{chosen}
 use Rattle.lines.proofs.Rows.{each, length-each, parted-each, rows-back, rows-exact, length-bits}
 
 line-of : (ps : List ℕ) → walkLine ps ≡ 87 ∷ each ps

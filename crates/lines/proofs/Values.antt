@@ -11,7 +11,7 @@ use borrow.Author.Tests.{lt-ltb, le-ltb, le-leb, lt-leb, leb-true}
 use Rattle.numbers.specs.Told.{choose}
 use Rattle.lines.specs.Digits.{digit, valueOf}
 use Rattle.numbers.proofs.OnePass.{and-left, and-right}
-use Rattle.lines.proofs.Flags.{lt-or-le, chosen}
+use Rattle.numbers.proofs.Flags.{lt-or-le, chosen}
 
 pub value-of-digit : (d : ℕ) → d < 16 → valueOf (digit d) ≡ d
 unfolding digit valueOf

@@ -8,7 +8,7 @@ ghost use lib.Dec.{leb};
 ghost use lib.ListN.{length};
 ghost use Rattle.numbers.specs.Told.{choose};
 ghost use Rattle.lines.specs.Lines.{lettered, ended};
-ghost use Rattle.lines.specs.Stored.{Stored};
+ghost use Rattle.numbers.specs.Stored.{Stored};
 ghost use Rattle.lines.specs.Compared.{coordinate, coordinates, differing, refusing, toldText, hasToldRoom};
 
 // Two steps at a position: the bench's and the office's.

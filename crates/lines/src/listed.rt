@@ -9,7 +9,7 @@ ghost use Prim.Native.Nat.{_+_, _≤_};
 ghost use lib.ListN.{length, getD};
 ghost use Rattle.numbers.specs.Told.{choose};
 ghost use Rattle.lines.specs.Reading.{named, headerOf, moveOf, lineOf};
-ghost use Rattle.lines.specs.Stored.{Stored};
+ghost use Rattle.numbers.specs.Stored.{Stored};
 ghost use Rattle.lines.specs.Lines.{written, ended, lettered, hasRoom, countDigits};
 
 // A step that moved: its count from 1, and the new point as bit patterns.

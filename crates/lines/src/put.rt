@@ -7,7 +7,7 @@ ghost use Prim.Native.Nat.{_+_, _%_, _≤_};
 ghost use lib.ListN.{length};
 ghost use Rattle.lines.specs.Digits.{digit, hex, decimal};
 ghost use Rattle.lines.specs.Fields.{tab, newline};
-ghost use Rattle.lines.specs.Stored.{Stored};
+ghost use Rattle.numbers.specs.Stored.{Stored};
 ghost use Rattle.lines.specs.Lines.{walkWord};
 
 // The byte of a number's lowest hex digit.

@@ -14,7 +14,7 @@ use Rattle.lines.specs.Record.{recordOf}
 use Rattle.lines.specs.declared.listed.Line.the-variants.{Header}
 use Rattle.lines.specs.declared.record.Asked.{Asked}
 use Rattle.lines.proofs.Cutting.{run-lines, none-begun, begun-kept}
-use Rattle.lines.proofs.Stores.{stored-stands}
+use Rattle.numbers.proofs.Stores.{stored-stands}
 use Rattle.listing.specs.Listing.{AllPrint, listingVersion, Listing}
 use Rattle.listing.specs.Asks.{asks}
 use Rattle.listing.specs.Block.{textOf}

@@ -18,11 +18,11 @@ use Rattle.walks.specs.Answers.{walkRefusal}
 use Rattle.walks.proofs.Aim.{Fit}
 use Rattle.walks.proofs.Ends.{let-in-ends}
 use Rattle.numbers.specs.Told.{choose}
-use Rattle.lines.specs.Stored.{Stored}
+use Rattle.numbers.specs.Stored.{Stored}
 use Rattle.lines.specs.Lines.{written, hasRoom}
 use Rattle.lines.specs.declared.listed.Line.{Line}
 use Rattle.lines.specs.declared.listed.Line.the-variants.{Arrived, Refused}
-use Rattle.lines.proofs.Stores.{stored-more, stored-as, stored-nothing, stored-length}
+use Rattle.numbers.proofs.Stores.{stored-more, stored-as, stored-nothing, stored-length}
 use Rattle.listing.specs.Listing.{step, steps, WalkPrints}
 use Rattle.listing.specs.Block.{endLine, mostSteps, movesOn, left, textOf, stepped, ended, afterOf, lineOf, linesLeft, Part}
 use Rattle.listing.specs.declared.block.Rest.{Rest}

@@ -16,7 +16,7 @@ use Rattle.lines.specs.Fields.{newline, span, fieldEnd}
 use Rattle.lines.specs.Lines.{hasRoom}
 use Rattle.lines.specs.declared.record.Asked.{Asked}
 use Rattle.lines.proofs.Cutting.{goOn, run-joined, run-some, cut-at-newline, span-at-most, nothing-kept}
-use Rattle.lines.proofs.Stores.{stored-more, stored-length}
+use Rattle.numbers.proofs.Stores.{stored-more, stored-length}
 use Rattle.listing.specs.Listing.{Prints, AllPrint}
 use Rattle.listing.specs.Asks.{asks}
 use Rattle.listing.specs.Block.{textOf, Part}

@@ -10,7 +10,7 @@ use Rattle.lines.specs.Fields.{newline, fieldEnd}
 use Rattle.lines.specs.Lines.{hasRoom}
 use Rattle.lines.specs.Record.{recordOf}
 use Rattle.lines.specs.declared.record.Asked.{Asked}
-use Rattle.lines.proofs.Stores.{stored-length}
+use Rattle.numbers.proofs.Stores.{stored-length}
 use Rattle.listing.specs.Listing.{Prints}
 use Rattle.listing.specs.Asks.{asks}
 use Rattle.listing.specs.Block.{textOf, Part}

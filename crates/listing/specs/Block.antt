@@ -10,7 +10,7 @@ use Rattle.legs.specs.declared.Point.{Point}
 use Rattle.moves.specs.Distance.{same}
 use Rattle.moves.specs.Moving.{moveTowards, pointOf}
 use Rattle.numbers.specs.Told.{choose}
-use Rattle.lines.specs.Stored.{Stored}
+use Rattle.numbers.specs.Stored.{Stored}
 use Rattle.lines.specs.Lines.{written}
 use Rattle.lines.specs.declared.listed.Line.{Line}
 use Rattle.lines.specs.declared.listed.Line.the-variants.{Arrived, Refused}

@@ -13,7 +13,7 @@ ghost use Prim.Native.Nat.{_+_, _≤_};
 ghost use lib.Dec.{leb};
 ghost use mathlib.Core.List.{[]};
 ghost use Rattle.numbers.specs.Told.{choose};
-ghost use Rattle.lines.specs.Stored.{Stored};
+ghost use Rattle.numbers.specs.Stored.{Stored};
 ghost use Rattle.lines.specs.Lines.{written, hasRoom};
 ghost use Rattle.lines.specs.declared.listed.Line.the-variants.{Header};
 ghost use Rattle.listing.specs.Listing.{pointAt, step, WalkPrints, Prints, listingVersion};

@@ -4,3 +4,4 @@ pub mod Limits
 pub mod Answers
 pub mod Finite
 pub mod Patterns
+pub mod Stored

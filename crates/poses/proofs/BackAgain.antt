@@ -17,7 +17,7 @@ use Rattle.numbers.specs.Door.{permits, unless, either}
 use Rattle.numbers.specs.Limits.{footLimit}
 use Rattle.legs.specs.Legs.{Leg, leftFront, rightFront, leftMiddle, rightMiddle, leftRear, rightRear, permittedPoint}
 use Rattle.lines.specs.Fields.{parted}
-use Rattle.lines.proofs.Stores.{front-stored}
+use Rattle.numbers.proofs.Stores.{front-stored}
 use Rattle.poses.specs.declared.OptionalFoot.{OptionalFoot}
 use Rattle.poses.specs.declared.OptionalFoot.the-variants.{Known, Null}
 use Rattle.poses.specs.declared.OptionalLegPositions.{OptionalLegPositions}
@@ -28,7 +28,8 @@ use Rattle.poses.specs.Answers.{legOf, sixLegs, givenPose}
 use Rattle.poses.specs.Reading.{inside, allInside, times, allKnown, eachOnce, footOf, valueFrom, valueFor, poseOf}
 use Rattle.poses.specs.Reading.{readTold, fromJsonTold}
 use Rattle.poses.specs.Writing.{isMinus, footText, footPermitted, namedText, poseText, writeRefused, rowAfter}
-use Rattle.poses.proofs.Flags.{and-both, each-true}
+use Rattle.numbers.proofs.Flags.{and-both}
+use Rattle.legs.proofs.OnePass.{each-true}
 use Rattle.poses.proofs.Writing.{written-below}
 use Rattle.poses.proofs.ThereAndBack.{read-permitted}
 use Rattle.poses.proofs.Exact.{accepted-exactly}

@@ -13,7 +13,7 @@ use lib.Seq.{getD-drop}
 use lib.ListN.{length, drop}
 use borrow.Author.Tests.{ne-eqb, eqb-true, eqb-false, le-leb, leb-true, lt-ltb, le-ltb, ltb-true, eq-eqb}
 use Rattle.numbers.proofs.OnePass.{and-left, and-right}
-use Rattle.lines.proofs.Flags.{chosen, lt-or-le}
+use Rattle.numbers.proofs.Flags.{chosen, lt-or-le}
 use Rattle.units.proofs.Door.{holds}
 use Rattle.numbers.specs.Told.{choose}
 use Rattle.poses.specs.Json.{Char, plain, escape, unicode, charBytes, isChar, isPlain, isEscape, isHex, utf8, tail}

@@ -10,7 +10,7 @@ use lib.ListN.{length, drop, drop-of-length-le, length-drop}
 use lib.Seq.{drop-drop}
 use borrow.Author.Tests.{eq-eqb, ne-eqb}
 use Rattle.numbers.specs.Told.{choose}
-use Rattle.lines.proofs.Flags.{chosen}
+use Rattle.numbers.proofs.Flags.{chosen}
 use Rattle.poses.specs.How.{byte, nowhere, charLong, further, closing, nameEnd}
 use Rattle.poses.proofs.Places.{from-on}
 

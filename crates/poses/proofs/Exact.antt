@@ -9,7 +9,7 @@ use native.Mathlib.Omega.{arith}
 use lib.Dec.{eqb}
 use lib.ListN.{length, length-append}
 use borrow.Author.Tests.{eq-eqb, ne-eqb, eqb-true}
-use Rattle.lines.proofs.Flags.{chosen}
+use Rattle.numbers.proofs.Flags.{chosen}
 use Rattle.numbers.specs.Told.{choose}
 use Rattle.poses.specs.Json.{Language, _then_, one, word, ws, isBlank, Member, members, inside, Text}
 use Rattle.poses.specs.How.{byte, past, after, token, Found, foundFrom, found, Reading, derived, underived, reading}

@@ -15,13 +15,13 @@ use Rattle.numbers.specs.Told.{choose, mark}
 use Rattle.numbers.specs.Limits.{footLimit}
 use Rattle.numbers.proofs.OnePass.{and-left, and-right}
 use Rattle.legs.specs.Legs.{Leg, every, permittedPoint}
-use Rattle.lines.proofs.Flags.{chosen}
+use Rattle.numbers.proofs.Flags.{chosen, both-ways, and-both, or-left, or-right}
 use Rattle.poses.specs.declared.values.Slot.{Slot}
 use Rattle.poses.specs.Json.{Value, null, three, Member}
 use Rattle.poses.specs.Names.{number}
 use Rattle.poses.specs.Reading.{inside, allInside, legOfMember, times, allKnown, eachOnce, footOf, valueFrom}
 use Rattle.poses.specs.Gathering.{noSlot, outOfRow, slotOf, slotAt, hasValue, isStrange, placed, isComplete, footFrom}
-use Rattle.poses.proofs.Flags.{both-ways, and-both, or-left, or-right, each-true, every-true}
+use Rattle.legs.proofs.OnePass.{each-true, every-true}
 use Rattle.poses.proofs.Named.{below-six, at-legs}
 
 -- ---- the members' work

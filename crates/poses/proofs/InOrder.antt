@@ -9,8 +9,8 @@ use lib.Ieee.{Float}
 use lib.ListN.{length, length-append}
 use Rattle.lines.specs.Digits.{numeral}
 use Rattle.lines.specs.Fields.{parted}
-use Rattle.lines.specs.Stored.{Stored}
-use Rattle.lines.proofs.Stores.{stored-as}
+use Rattle.numbers.specs.Stored.{Stored}
+use Rattle.numbers.proofs.Stores.{stored-as}
 use Rattle.legs.specs.Legs.{Leg, leftFront, leftMiddle, leftRear, rightFront, rightMiddle, rightRear}
 use Rattle.legs.specs.declared.Point.{Point}
 use Rattle.poses.specs.declared.OptionalFoot.{OptionalFoot}

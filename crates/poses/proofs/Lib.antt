@@ -11,7 +11,6 @@ pub mod Writing
 pub mod ThereAndBack
 mod NumberExamples
 -- text
-mod Flags
 mod Places
 mod Runs
 mod Spans

@@ -7,7 +7,7 @@ use native.Mathlib.Omega.{arith}
 use lib.Dec.{eqb}
 use lib.ListN.{length}
 use borrow.Author.Tests.{eq-eqb, ne-eqb}
-use Rattle.lines.proofs.Flags.{chosen}
+use Rattle.numbers.proofs.Flags.{chosen}
 use Rattle.numbers.specs.Told.{choose}
 use Rattle.poses.specs.Json.{Language, _then_, one, ws, isBlank, value, Member, quoted, member, members}
 use Rattle.poses.specs.How.{byte, past, after, token, valueAt, nameEnd, memberAt, Found, foundFrom}

@@ -13,10 +13,9 @@ use borrow.Author.Tests.{eqb-true, eq-eqb, le-ltb}
 use Rattle.numbers.specs.Told.{choose}
 use Rattle.numbers.proofs.OnePass.{and-left, and-right}
 use Rattle.legs.specs.Legs.{Leg, leftFront, rightFront, leftMiddle, rightMiddle, leftRear, rightRear}
-use Rattle.lines.proofs.Flags.{chosen}
+use Rattle.numbers.proofs.Flags.{chosen, by-test, and-both}
 use Rattle.poses.specs.Names.{nameOf, number, nameAt, same, legNamed}
 use Rattle.poses.specs.Gathering.{padded, likely}
-use Rattle.poses.proofs.Flags.{by-test, and-both}
 
 -- ---- legs and their numbers
 pub below-six : (l : Leg) → number l < 6

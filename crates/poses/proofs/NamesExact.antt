@@ -8,7 +8,7 @@ use lib.Dec.{eqb}
 use lib.ListN.{length, take, drop, length-append}
 use lib.Seq.{drop-drop, drop-at, take-at, drop-append-seam}
 use borrow.Author.Tests.{ne-eqb, eqb-true, eqb-false}
-use Rattle.lines.proofs.Flags.{chosen}
+use Rattle.numbers.proofs.Flags.{chosen}
 use Rattle.numbers.specs.Told.{choose}
 use Rattle.poses.specs.Json.{Language, Char, charBytes, spelled, AreChars, chars}
 use Rattle.poses.specs.How.{nowhere, charLong, further, closing, nameEnd}

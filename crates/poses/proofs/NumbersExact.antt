@@ -10,7 +10,7 @@ use lib.Ieee.Bits.{is-true}
 use lib.ListN.{length, drop}
 use lib.Seq.{drop-drop}
 use borrow.Author.Tests.{eq-eqb, ne-eqb, eqb-true, eqb-false}
-use Rattle.lines.proofs.Flags.{chosen}
+use Rattle.numbers.proofs.Flags.{chosen}
 use Rattle.units.proofs.Door.{holds}
 use Rattle.numbers.specs.Told.{choose}
 use Rattle.poses.specs.Json.{_then_, Number, Amount, number, sign, isBlank, isDigit, digits, digitsFrom, pointed}

@@ -13,7 +13,7 @@ use lib.ListN.{length, drop, drop-of-length-le}
 use borrow.Author.Tests.{leb-true}
 use Rattle.numbers.proofs.OnePass.{and-left, and-right}
 use Rattle.units.proofs.Whole.{le-or-lt}
-use Rattle.lines.proofs.Flags.{chosen}
+use Rattle.numbers.proofs.Flags.{chosen}
 use Rattle.poses.specs.Json.{isDigit}
 use Rattle.poses.specs.How as how
 use Rattle.poses.specs.How.{byte, runOf}

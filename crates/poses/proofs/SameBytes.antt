@@ -10,7 +10,7 @@ use lib.ListN.{length, getD, take, drop, length-drop}
 use lib.Seq.{length-take-le, getD-drop}
 use borrow.Author.Tests.{eq-eqb, ne-eqb}
 use Rattle.numbers.specs.Told.{choose}
-use Rattle.lines.proofs.Flags.{chosen}
+use Rattle.numbers.proofs.Flags.{chosen}
 use Rattle.poses.specs.How.{byte}
 use Rattle.poses.specs.Names.{nameAt, same, legNamed}
 use Rattle.poses.specs.Gathering.{padded, likely}

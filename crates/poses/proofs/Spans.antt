@@ -11,7 +11,7 @@ use lib.Ieee.Bits.{is-true}
 use lib.ListN.{length, getD, drop, length-append}
 use lib.Seq.{drop-drop, drop-append-seam, drop-length, getD-drop}
 use borrow.Author.Tests.{eq-eqb, eqb-true}
-use Rattle.lines.proofs.Flags.{chosen}
+use Rattle.numbers.proofs.Flags.{chosen}
 use Rattle.units.proofs.Door.{holds}
 use Rattle.poses.specs.Json.{Language, _then_, word, one, ws, isBlank}
 use Rattle.poses.specs.How.{byte, nowhere, blanks, past, after}

@@ -9,7 +9,7 @@ use lib.Dec.{T, eqb, leb}
 use lib.Ieee.Bits.{is-true}
 use borrow.Author.Tests.{ne-eqb, eqb-true, eqb-false, le-leb, lt-leb, leb-true, leb-false, lt-ltb, le-ltb}
 use Rattle.numbers.proofs.OnePass.{and-left, and-right}
-use Rattle.lines.proofs.Flags.{chosen, lt-or-le, not-true}
+use Rattle.numbers.proofs.Flags.{chosen, lt-or-le, not-true}
 use Rattle.units.proofs.Door.{holds}
 use Rattle.numbers.specs.Told.{choose}
 use Rattle.poses.specs.Json.{utf8, tail, isCharacter, isPlain}

@@ -9,7 +9,7 @@ use lib.Dec.{T, eqb}
 use lib.Ieee.Bits.{is-true}
 use lib.ListN.{length}
 use borrow.Author.Tests.{eq-eqb, ne-eqb, lt-leb}
-use Rattle.lines.proofs.Flags.{chosen, lt-or-le}
+use Rattle.numbers.proofs.Flags.{chosen, lt-or-le}
 use Rattle.numbers.specs.Told.{choose}
 use Rattle.poses.specs.Json.{Language, _then_, word, one, ws, Number, number, Value, null, three, value, nullWord, isBlank, isDigit}
 use Rattle.poses.specs.How.{byte, past, after, token, numberAt, ValueAt, nullAt, threeAt, valueAt}

@@ -18,7 +18,7 @@ use Rattle.units.proofs.Door.{holds}
 use Rattle.legs.specs.Legs.{permittedPoint}
 use Rattle.legs.specs.declared.Point.{Point}
 use Rattle.legs.proofs.OnePass.{all-six, in-foot-row}
-use Rattle.lines.specs.Stored.{Stored}
+use Rattle.numbers.specs.Stored.{Stored}
 use Rattle.poses.specs.declared.OptionalFoot.{OptionalFoot}
 use Rattle.poses.specs.declared.OptionalFoot.the-variants.{Known, Null}
 use Rattle.poses.specs.declared.OptionalLegPositions.{OptionalLegPositions}
@@ -26,7 +26,7 @@ use Rattle.poses.specs.declared.PoseWritten.the-variants.{Length, Refuse
 use Rattle.poses.specs.Answers.{legOf, toldWritten}
 use Rattle.poses.specs.Writing.{footFinite, footPermitted, poseFinite, posePermitted, rowLength, writeRefused}
 use Rattle.poses.specs.Writing.{poseText, toJsonTold, rowAfter}
-use Rattle.poses.proofs.Flags.{by-test}
+use Rattle.numbers.proofs.Flags.{by-test}
 
 -- ---- a permitted point's coordinates
 module _ (p : Point) (h : permittedPoint footLimit p ≡ true) where

@@ -28,7 +28,7 @@ use Rattle.poses.specs.Json.{ws, one, value, plain, utf8, isPlain, spell
 use Rattle.poses.specs.Names.{nameOf, fields}
 use Rattle.poses.specs.Answers.{legOf}
 use Rattle.poses.specs.Writing.{isMinus, minusText, partsText, numberText, pointText, footText, memberText, namedText, poseText}
-use Rattle.poses.proofs.Flags.{and-both}
+use Rattle.numbers.proofs.Flags.{and-both}
 use Rattle.poses.proofs.NumbersExact.{pointed-some}
 
 -- ---- the members of the text

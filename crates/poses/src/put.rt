@@ -14,7 +14,7 @@ ghost use Rattle.numbers.specs.Door.{permits};
 ghost use Rattle.numbers.specs.Limits.{footLimit};
 ghost use Rattle.legs.specs.Legs.{permittedPoint};
 ghost use Rattle.lines.specs.Digits.{digit, numeral};
-ghost use Rattle.lines.specs.Stored.{Stored};
+ghost use Rattle.numbers.specs.Stored.{Stored};
 ghost use Rattle.poses.specs.Json.{nullWord};
 ghost use Rattle.poses.specs.Names.{nameAt};
 ghost use Rattle.poses.specs.Writing.{minusText, partsText, numberText, pointText, footText, namedText, poseText};

@@ -3,7 +3,7 @@ use mathlib.Core.Path.{_≡_, refl}
 use lib.ListN.{length}
 use borrow.Author.Needs.{needs}
 use Rattle.compare.specs.Stretch.{Goes}
-use Rattle.lines.proofs.Flags.{not-true, ahead, comes-nearer}
+use Rattle.numbers.proofs.Flags.{not-true, ahead, comes-nearer}
 use Rattle.compare.proofs.Stretches.{goes-nowhere, goes-more}
 use Rattle.compare.proofs.stretch.gone.Statement.{statement}
 use Rattle.compare.proofs.stretch.gone.Tie as tie

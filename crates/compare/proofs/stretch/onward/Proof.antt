@@ -2,7 +2,7 @@
 use mathlib.Core.Path.{_≡_, sym, _∙_}
 use mathlib.Core.Bool.{true}
 use Rattle.lines.specs.Compared.{hasToldRoom}
-use Rattle.lines.proofs.Flags.{not-false}
+use Rattle.numbers.proofs.Flags.{not-false}
 use Rattle.compare.proofs.Stretches.{stops, told-onward}
 use borrow.Author.Needs.{needs}
 use Rattle.compare.proofs.stretch.onward.Statement.{statement}

@@ -7,10 +7,10 @@ use lib.Dec.{eqb}
 use borrow.Author.Tests.{eq-eqb, ne-eqb}
 use Rattle.lines.specs.Digits.{hex}
 use Rattle.lines.specs.Fields.{tab}
-use Rattle.lines.specs.Stored.{Stored}
+use Rattle.numbers.specs.Stored.{Stored}
 use Rattle.lines.specs.Compared.{coordinate}
 use Rattle.lines.proofs.Numerals.{length-hex}
-use Rattle.lines.proofs.Stores.{stored-more, stored-as, stored-nothing}
+use Rattle.numbers.proofs.Stores.{stored-more, stored-as, stored-nothing}
 use borrow.Author.Needs.{needs}
 use Rattle.lines.proofs.compared.put_coordinate.Statement.{statement}
 use Rattle.lines.proofs.compared.put_coordinate.Tie as tie

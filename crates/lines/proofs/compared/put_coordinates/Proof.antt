@@ -1,7 +1,7 @@
 -- `lines::compared::put_coordinates` meets its contract.
 use native.Mathlib.Omega.{arith}
 use Rattle.lines.specs.Compared.{coordinates}
-use Rattle.lines.proofs.Stores.{stored-more}
+use Rattle.numbers.proofs.Stores.{stored-more}
 use Rattle.lines.proofs.Widths.{coordinate-width}
 use borrow.Author.Needs.{needs}
 use Rattle.lines.proofs.compared.put_coordinates.Statement.{statement}

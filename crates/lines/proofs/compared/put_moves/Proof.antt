@@ -2,7 +2,7 @@
 use mathlib.Core.List.{append-assoc}
 use native.Mathlib.Omega.{arith}
 use Rattle.lines.proofs.Widths.{number-width, coordinates-width}
-use Rattle.lines.proofs.Stores.{stored-more, stored-as}
+use Rattle.numbers.proofs.Stores.{stored-more, stored-as}
 use borrow.Author.Needs.{needs}
 use Rattle.lines.proofs.compared.put_moves.Statement.{statement}
 use Rattle.lines.proofs.compared.put_moves.Tie as tie

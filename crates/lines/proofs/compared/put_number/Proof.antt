@@ -2,7 +2,7 @@
 use native.Mathlib.Omega.{arith}
 use Rattle.lines.specs.Fields.{parted}
 use Rattle.lines.proofs.Decimal.{length-at-most}
-use Rattle.lines.proofs.Stores.{stored-more}
+use Rattle.numbers.proofs.Stores.{stored-more}
 use borrow.Author.Needs.{needs}
 use Rattle.lines.proofs.compared.put_number.Statement.{statement}
 use Rattle.lines.proofs.compared.put_number.Tie as tie

@@ -1,6 +1,6 @@
 -- `lines::compared::put_refusal` meets its contract.
 use Rattle.lines.specs.Fields.{parted}
-use Rattle.lines.proofs.Stores.{stored-more}
+use Rattle.numbers.proofs.Stores.{stored-more}
 use borrow.Author.Needs.{needs}
 use Rattle.lines.proofs.compared.put_refusal.Statement.{statement}
 use Rattle.lines.proofs.compared.put_refusal.Tie as tie

@@ -1,7 +1,7 @@
 -- `lines::compared::put_short` meets its contract.
 use native.Mathlib.Omega.{arith}
 use Rattle.lines.proofs.Widths.{number-width}
-use Rattle.lines.proofs.Stores.{stored-more}
+use Rattle.numbers.proofs.Stores.{stored-more}
 use borrow.Author.Needs.{needs}
 use Rattle.lines.proofs.compared.put_short.Statement.{statement}
 use Rattle.lines.proofs.compared.put_short.Tie as tie

@@ -9,10 +9,10 @@ use lib.ListN.{length}
 use borrow.Author.Tests.{leb-true}
 use Rattle.numbers.specs.Told.{choose}
 use Rattle.lines.specs.Compared.{toldText, hasToldRoom}
-use Rattle.lines.specs.Stored.{Stored}
+use Rattle.numbers.specs.Stored.{Stored}
 use Rattle.lines.specs.declared.compared.Told.{Told}
-use Rattle.lines.proofs.Flags.{not-false, not-true}
-use Rattle.lines.proofs.Stores.{stored-as, stored-nothing, stored-where}
+use Rattle.numbers.proofs.Flags.{not-false, not-true}
+use Rattle.numbers.proofs.Stores.{stored-as, stored-nothing, stored-where}
 use borrow.Author.Needs.{needs}
 use Rattle.lines.proofs.compared.put_told.Statement.{statement}
 use Rattle.lines.proofs.compared.put_told.Tie as tie

@@ -5,7 +5,7 @@ use lib.ListN.{length}
 use borrow.Author.Needs.{needs}
 use borrow.Author.Tests.{le-leb, lt-leb}
 use Rattle.lines.specs.Lines.{body}
-use Rattle.lines.proofs.Stores.{stored-as, stored-nothing}
+use Rattle.numbers.proofs.Stores.{stored-as, stored-nothing}
 use Rattle.lines.proofs.listed.put_line.Statement.{statement}
 use Rattle.lines.proofs.listed.put_line.Tie as tie
 

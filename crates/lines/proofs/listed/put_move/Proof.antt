@@ -6,7 +6,7 @@ use Rattle.lines.specs.Fields.{parted}
 use Rattle.lines.specs.Lines.{body}
 use Rattle.lines.proofs.Decimal.{length-at-most}
 use Rattle.lines.proofs.Numerals.{length-hex}
-use Rattle.lines.proofs.Stores.{stored-more, stored-as}
+use Rattle.numbers.proofs.Stores.{stored-more, stored-as}
 use Rattle.lines.proofs.listed.put_move.Statement.{statement}
 use Rattle.lines.proofs.listed.put_move.Tie as tie
 

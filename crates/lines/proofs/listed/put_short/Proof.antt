@@ -5,7 +5,7 @@ use borrow.Author.Needs.{needs}
 use Rattle.lines.specs.Fields.{parted}
 use Rattle.lines.specs.Lines.{body}
 use Rattle.lines.proofs.Decimal.{length-at-most}
-use Rattle.lines.proofs.Stores.{stored-more, stored-as}
+use Rattle.numbers.proofs.Stores.{stored-more, stored-as}
 use Rattle.lines.proofs.listed.put_short.Statement.{statement}
 use Rattle.lines.proofs.listed.put_short.Tie as tie
 

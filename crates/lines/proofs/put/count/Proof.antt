@@ -9,7 +9,7 @@ use lib.Seq.{sets}
 use borrow.Author.Needs.{needs}
 use Rattle.lines.specs.Digits.{digit, decimal}
 use Rattle.lines.proofs.Decimal.{decimal-few, decimal-more, length-few, length-more, length-positive}
-use Rattle.lines.proofs.Stores.{last-stored-first}
+use Rattle.numbers.proofs.Stores.{last-stored-first}
 use Rattle.lines.proofs.put.count.Statement.{statement}
 use Rattle.lines.proofs.put.count.Tie as tie
 

@@ -3,7 +3,7 @@ use mathlib.Core.Path.{_≡_, sym, ap}
 use Prim.Native.Nat.{ℕ, _≤_, _%_}
 use native.Mathlib.Omega.{arith}
 use Rattle.lines.specs.Digits.{digit}
-use Rattle.lines.proofs.Flags.{past}
+use Rattle.numbers.proofs.Flags.{past}
 use Rattle.lines.proofs.put.digit.Statement.{statement}
 use Rattle.lines.proofs.put.digit.Tie as tie
 

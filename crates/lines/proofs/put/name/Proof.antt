@@ -4,7 +4,7 @@ use native.Mathlib.Numerals.{add-one, towards-suc}
 use native.Mathlib.Omega.{arith}
 use lib.ListN.{length-set}
 use borrow.Author.Needs.{needs}
-use Rattle.lines.proofs.Stores.{add-nine, add-ten, add-eleven}
+use Rattle.numbers.proofs.Stores.{add-nine, add-ten, add-eleven}
 use Rattle.lines.proofs.put.name.Statement.{statement}
 use Rattle.lines.proofs.put.name.Tie as tie
 

@@ -3,7 +3,7 @@ use mathlib.Core.Path.{_≡_, sym, subst, _∙_}
 use mathlib.Core.Bool.{true, false}
 use Rattle.lines.specs.Carry.{held, hasBegun}
 use Rattle.lines.specs.declared.record.Asked.{Asked}
-use Rattle.lines.proofs.Flags.{not-true, not-false}
+use Rattle.numbers.proofs.Flags.{not-true, not-false}
 use Rattle.listing.specs.Listing.{Prints}
 use Rattle.listing.specs.Block.{textOf}
 use Rattle.listing.proofs.Feeding.{ends-later, ends-nothing, ends-line}

@@ -7,7 +7,7 @@ use lib.ListN.{length}
 use borrow.Author.Needs.{needs}
 use Rattle.lines.specs.Lines.{hasRoom}
 use Rattle.listing.specs.Printer.{Puts}
-use Rattle.lines.proofs.Stores.{stored-length}
+use Rattle.numbers.proofs.Stores.{stored-length}
 use Rattle.listing.specs.declared.printer.Reached.{Reached}
 use Rattle.listing.proofs.Blocks.{is-fit, same-room, no-room}
 use Rattle.listing.proofs.Feeding.{fills-nothing, puts-left, puts-more, ready}

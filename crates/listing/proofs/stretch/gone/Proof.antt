@@ -4,7 +4,7 @@ use mathlib.Core.Bool.{true, false, not, _&&_, false≢true}
 use lib.ListN.{length}
 use borrow.Author.Needs.{needs}
 use Rattle.lines.specs.Lines.{hasRoom}
-use Rattle.lines.proofs.Flags.{not-true, not-false, ahead, comes-nearer}
+use Rattle.numbers.proofs.Flags.{not-true, not-false, ahead, comes-nearer}
 use Rattle.listing.specs.Stretch.{Goes, Unmoved}
 use Rattle.listing.proofs.Stretches.{goes-nowhere, goes-more, unmoved-more}
 use Rattle.listing.proofs.stretch.gone.Statement.{statement}

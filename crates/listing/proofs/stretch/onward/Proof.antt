@@ -4,7 +4,7 @@ use Prim.Native.Nat.{_<_}
 use native.Mathlib.Omega.{arith}
 use lib.ListN.{length}
 use Rattle.lines.specs.declared.record.Asked.{Asked}
-use Rattle.lines.proofs.Flags.{not-false}
+use Rattle.numbers.proofs.Flags.{not-false}
 use Rattle.listing.specs.Listing.{Prints}
 use Rattle.listing.specs.Block.{textOf}
 use Rattle.listing.proofs.Stretches.{stops, reads-on, may-read}

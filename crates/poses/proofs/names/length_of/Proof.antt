@@ -4,7 +4,7 @@ use mathlib.Core.List.{[]}
 use lib.ListN.{length, List·getD-eq-default}
 use borrow.Author.Needs.{needs}
 use Rattle.legs.specs.Legs.{row}
-use Rattle.lines.proofs.Flags.{past}
+use Rattle.numbers.proofs.Flags.{past}
 use Rattle.poses.specs.Names.{nameOf}
 use Rattle.poses.proofs.names.length_of.Statement.{statement}
 use Rattle.poses.proofs.names.length_of.Tie as tie

@@ -1,6 +1,6 @@
 -- `poses::names::name_of` meets its contract: each arm is its leg's name, and the last is any other's.
 use mathlib.Core.Path.{sym, ap}
-use Rattle.lines.proofs.Flags.{past}
+use Rattle.numbers.proofs.Flags.{past}
 use Rattle.poses.specs.Gathering.{padded}
 use Rattle.poses.proofs.Named.{last-name}
 use Rattle.poses.proofs.names.name_of.Statement.{statement}

@@ -4,7 +4,7 @@ use lib.Dec.{ltb}
 use borrow.Author.Needs.{needs}
 use borrow.Author.Tests.{lt-ltb, le-ltb}
 use Rattle.poses.specs.Gathering.{hasValue, slotAt}
-use Rattle.poses.proofs.Flags.{where-true, where-false}
+use Rattle.numbers.proofs.Flags.{where-true, where-false}
 use Rattle.poses.proofs.object.is_strange.Statement.{statement}
 use Rattle.poses.proofs.object.is_strange.Tie as tie
 

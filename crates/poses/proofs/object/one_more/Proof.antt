@@ -5,7 +5,7 @@ use lib.Dec.{eqb, lit<}
 use borrow.Author.Needs.{needs}
 use Rattle.numbers.specs.declared.door.Limit.{Limit}
 use Rattle.legs.specs.Legs.{permittedPoint}
-use Rattle.lines.proofs.Flags.{chosen}
+use Rattle.numbers.proofs.Flags.{chosen}
 use Rattle.poses.proofs.ByCases.{one-more-in-order}
 use Rattle.poses.proofs.object.one_more.Statement.{statement}
 use Rattle.poses.proofs.object.one_more.Tie as tie

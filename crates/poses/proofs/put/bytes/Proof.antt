@@ -7,7 +7,7 @@ use native.Mathlib.Omega.{arith}
 use lib.ListN.{length, getD, set, take}
 use lib.Seq.{sets, take-suc, length-take-le, length-sets}
 use borrow.Author.Needs.{needs}
-use Rattle.lines.proofs.Stores.{stores-append}
+use Rattle.numbers.proofs.Stores.{stores-append}
 use Rattle.poses.proofs.put.bytes.Statement.{statement}
 use Rattle.poses.proofs.put.bytes.Tie as tie
 

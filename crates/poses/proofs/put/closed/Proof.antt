@@ -1,7 +1,7 @@
 -- `poses::put::closed` meets its contract: the member, and the byte behind it.
 use native.Mathlib.Omega.{arith}
 use borrow.Author.Needs.{needs}
-use Rattle.lines.proofs.Stores.{stored-more}
+use Rattle.numbers.proofs.Stores.{stored-more}
 use Rattle.poses.proofs.put.closed.Statement.{statement}
 use Rattle.poses.proofs.put.closed.Tie as tie
 

@@ -2,7 +2,7 @@
 use mathlib.Core.Path.{sym, ap, _∙_}
 use native.Mathlib.Omega.{arith}
 use borrow.Author.Needs.{needs}
-use Rattle.lines.proofs.Stores.{stored-as}
+use Rattle.numbers.proofs.Stores.{stored-as}
 use Rattle.poses.specs.Writing.{footText, footPermitted}
 use Rattle.poses.proofs.put.foot.Statement.{statement}
 use Rattle.poses.proofs.put.foot.Tie as tie

@@ -5,7 +5,7 @@ use Prim.Native.Nat.{ℕ, _≤_}
 use native.Mathlib.Omega.{arith}
 use lib.ListN.{length, take}
 use borrow.Author.Needs.{needs}
-use Rattle.lines.proofs.Stores.{stored-more, stored-as}
+use Rattle.numbers.proofs.Stores.{stored-more, stored-as}
 use Rattle.poses.specs.Names.{nameAt}
 use Rattle.poses.proofs.InOrder.{member-in-order}
 use Rattle.poses.proofs.Named.{padded-front, name-few}

@@ -2,7 +2,7 @@
 use mathlib.Core.Path.{sym, ap}
 use native.Mathlib.Omega.{arith}
 use borrow.Author.Needs.{needs}
-use Rattle.lines.proofs.Stores.{stored-as, stored-nothing}
+use Rattle.numbers.proofs.Stores.{stored-as, stored-nothing}
 use Rattle.poses.specs.Writing.{minusText}
 use Rattle.poses.proofs.put.minus.Statement.{statement}
 use Rattle.poses.proofs.put.minus.Tie as tie

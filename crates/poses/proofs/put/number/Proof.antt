@@ -10,7 +10,7 @@ use Rattle.numbers.specs.Limits.{footLimit}
 use Rattle.units.specs.Units.{unity}
 use Rattle.units.proofs.Door.{permitted-finite, finite-no-nan}
 use Rattle.units.proofs.Table.{foot-ends}
-use Rattle.lines.proofs.Stores.{stored-more, stored-as}
+use Rattle.numbers.proofs.Stores.{stored-more, stored-as}
 use Rattle.poses.specs.Decimals.{writtenAs}
 use Rattle.poses.specs.Writing.{isMinus, minusText, partsText, numberText}
 use Rattle.poses.proofs.Writing.{written-below}

@@ -5,7 +5,7 @@ use Prim.Native.Nat.{ℕ, _/_, _%_}
 use native.Mathlib.Omega.{arith}
 use borrow.Author.Needs.{needs}
 use Rattle.lines.specs.Digits.{digit, numeral}
-use Rattle.lines.proofs.Stores.{stored-more, stored-as}
+use Rattle.numbers.proofs.Stores.{stored-more, stored-as}
 use Rattle.poses.specs.Writing.{partsText}
 use Rattle.poses.proofs.put.parts.Statement.{statement}
 use Rattle.poses.proofs.put.parts.Tie as tie

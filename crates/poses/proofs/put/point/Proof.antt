@@ -1,7 +1,7 @@
 -- `poses::put::point` meets its contract: three numbers, their commas and brackets, one behind the other.
 use native.Mathlib.Omega.{arith}
 use borrow.Author.Needs.{needs}
-use Rattle.lines.proofs.Stores.{stored-more, stored-as}
+use Rattle.numbers.proofs.Stores.{stored-more, stored-as}
 use Rattle.poses.proofs.InOrder.{point-in-order}
 use Rattle.poses.proofs.WritingDoor.{permits-x, permits-y, permits-z}
 use Rattle.poses.proofs.put.point.Statement.{statement}

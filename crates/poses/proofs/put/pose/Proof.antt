@@ -7,12 +7,12 @@ use native.Mathlib.Omega.{arith}
 use lib.Dec.{lit<}
 use borrow.Author.Needs.{needs}
 use Rattle.legs.specs.Legs.{leftFront, rightFront, leftMiddle, rightMiddle, leftRear, rightRear}
-use Rattle.lines.proofs.Stores.{stored-more, stored-as}
+use Rattle.numbers.proofs.Stores.{stored-more, stored-as}
 use Rattle.poses.specs.declared.OptionalLegPositions.{OptionalLegPositions}
 use Rattle.poses.specs.Names.{nameAt}
 use Rattle.poses.specs.Answers.{legOf}
 use Rattle.poses.specs.Writing.{namedText, footPermitted, posePermitted}
-use Rattle.poses.proofs.Flags.{each-true}
+use Rattle.legs.proofs.OnePass.{each-true}
 use Rattle.poses.proofs.InOrder.{text-is, pose-in-order}
 use Rattle.poses.proofs.put.pose.Statement.{statement}
 use Rattle.poses.proofs.put.pose.Tie as tie

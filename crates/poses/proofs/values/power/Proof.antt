@@ -2,7 +2,7 @@
 use mathlib.Core.Path.{_≡_, sym, ap}
 use Prim.Native.Nat.{ℕ, _^_}
 use native.Mathlib.Nat.{le-antisymm}
-use Rattle.lines.proofs.Flags.{past}
+use Rattle.numbers.proofs.Flags.{past}
 use Rattle.poses.proofs.values.power.Statement.{statement}
 use Rattle.poses.proofs.values.power.Tie as tie
 

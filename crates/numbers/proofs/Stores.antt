@@ -6,8 +6,8 @@ use Prim.Native.Nat.{ℕ, suc, _+_, _≤_}
 use native.Mathlib.Nat.{add-zero, suc-add, add-suc}
 use native.Mathlib.Omega.{arith}
 use lib.ListN.{length, set, take, drop, length-append}
 use Rattle.numbers.specs.Told.{choose}
-use Rattle.lines.specs.Stored.{Stored}
+use Rattle.numbers.specs.Stored.{Stored}
 use lib.Seq.{sets, sets-eq, set-comm, take-at, drop-at, length-take-le, length-sets}
 
 -- the places of a run of stores, as its next and next

@@ -1,13 +1,14 @@
--- The two cases of a test on numbers, a loop that ends by a flag, and what the last arm of a match knows.
+-- Of flags: the two cases of a test, conjunctions, two flags that imply each other, a loop that ends by a flag, and what the last arm of
+-- a match knows.
 use mathlib.Core.Path.{_≡_, refl, sym}
-use mathlib.Core.Bool.{Bool, true, false, not, false≢true}
+use mathlib.Core.Bool.{Bool, true, false, not, _&&_, _||_, true≢false, false≢true}
 use mathlib.Core.Logic.{_⊎_, inl, inr, ⊎-elim}
 use Prim.Native.Nat.{ℕ, zero, suc, _-_, _≤_, _<_, zero-le}
 use native.Mathlib.Nat.{le-antisymm}
 use native.Mathlib.Omega.{arith}
 use lib.Dec.{ltb}
 use borrow.Author.Tests.{ltb-true, ltb-false}
 use Rattle.numbers.specs.Told.{choose}
 
 by-flag : (m n : ℕ) (t : Bool) → ltb m n ≡ t → (m < n) ⊎ (n ≤ m)
 by-flag m n true e = inl (ltb-true m n e)
@@ -29,6 +30,33 @@ not-true false e = refl
 pub chosen : {A : Type 0} (P : A → Type 0) (t : Bool) (x y : A) → (t ≡ true → P x) → (t ≡ false → P y) → P (choose t x y)
 chosen P true x y f g = f refl
 chosen P false x y f g = g refl
+
+pub by-test : {A : Type 0} (t : Bool) → (t ≡ true → A) → (t ≡ false → A) → A
+by-test true f g = f refl
+by-test false f g = g refl
+
+pub both-ways : (a b : Bool) → (a ≡ true → b ≡ true) → (b ≡ true → a ≡ true) → a ≡ b
+both-ways true b f g = sym (f refl)
+both-ways false true f g = g refl
+both-ways false false f g = refl
+
+pub and-both : (a b : Bool) → a ≡ true → b ≡ true → (a && b) ≡ true
+and-both a b p q = simp (p, q)
+
+pub or-left : (a b : Bool) → (a || b) ≡ false → a ≡ false
+or-left true b e = e
+or-left false b e = refl
+
+pub or-right : (a b : Bool) → (a || b) ≡ false → b ≡ false
+or-right true b e = absurd (true≢false e)
+or-right false b e = e
+
+-- the answer where a test holds, and where it does not; it stands on the left, so that another answer is named
+pub where-true : {A : Type 0} (t : Bool) (x y : A) → t ≡ true → x ≡ choose t x y
+where-true t x y e = rw e refl
+
+pub where-false : {A : Type 0} (t : Bool) (x y : A) → t ≡ false → y ≡ choose t x y
+where-false t x y e = rw e refl
 
 -- how far a loop is at most from where it stops, which goes on to places up to n
 abbrev pub ahead : ℕ → ℕ → Bool → ℕ
