@@ -1,0 +1,70 @@
+-- Points and feet are stored as runs, one behind the other; what is stored of a finite point is finite.
+use mathlib.Core.Path.{_≡_, refl, ap, sym, _∙_}
+use mathlib.Core.Bool.{true, false, not, _&&_, true≢false}
+use mathlib.Core.List.{List, _++_}
+use Prim.Native.Nat.{ℕ, _+_}
+use lib.Dec.{T}
+use lib.ListN.{length}
+use lib.Seq.{sets}
+use lib.Ieee.{Float, nan, inf, fin, isNan}
+use Rattle.numbers.specs.Door.{finite}
+use Rattle.numbers.proofs.OnePass.{and-left, and-right}
+use Rattle.numbers.proofs.Stores.{stores-append}
+use Rattle.legs.specs.Legs.{Leg, leftFront, rightFront, leftMiddle, rightMiddle, leftRear, rightRear, foot, finitePoint, finiteFeet}
+use Rattle.legs.specs.Answers.{lifts}
+use Rattle.legs.specs.declared.Point.{Point}
+use Rattle.legs.specs.declared.Feet.{Feet}
+use Rattle.legs.proofs.OnePass.{each-true}
+use Rattle.packed.specs.Packed.{floatBytes, pointBytes, feetBytes}
+
+pub no-nan : (x : Float) → finite x ≡ true → T (not (isNan x))
+unfolding finite isNan
+no-nan nan e = absurd (true≢false (sym e))
+no-nan (inf s) e = tt
+no-nan (fin s m e) h = tt
+
+pub finite-each : (p : Point) → finitePoint p ≡ true → (finite (p .x) ≡ true) × (finite (p .y) ≡ true) × (finite (p .z) ≡ true)
+unfolding finitePoint
+finite-each p e =
+    let two = and-left (finite (p .x) && finite (p .y)) (finite (p .z)) e in
+    (and-left (finite (p .x)) (finite (p .y)) two, and-right (finite (p .x)) (finite (p .y)) two, third e)
+  where
+    third : (finite (p .x) && finite (p .y) && finite (p .z)) ≡ true → finite (p .z) ≡ true
+    third = and-right (finite (p .x) && finite (p .y)) (finite (p .z))
+
+pub finite-foot : (f : Feet) → finiteFeet f ≡ true → (l : Leg) → finitePoint (foot f l) ≡ true
+finite-foot f e l = each-true (λ k. finitePoint (foot f k)) e l
+
+pub point-stored : (p : Point) (at : ℕ) (l a b c : List ℕ) → a ≡ sets l at (floatBytes (p .x)) → b ≡ sets a (at + 4) (floatBytes (p .y))
+    → c ≡ sets b (at + 8) (floatBytes (p .z)) → c ≡ sets l at (pointBytes p)
+point-stored p at l a b c first second third =
+    third
+    ∙ ap (λ (m : List ℕ). sets m (at + 8) (floatBytes (p .z)))
+    (second
+    ∙ ap (λ (m : List ℕ). sets m (at + 4) (floatBytes (p .y))) first
+    ∙ stores-append l at (floatBytes (p .x)) (floatBytes (p .y)))
+    ∙ stores-append l at (floatBytes (p .x) ++ floatBytes (p .y)) (floatBytes (p .z))
+
+-- one run more behind a run
+more : (l a b : List ℕ) (at : ℕ) (run : List ℕ) (k : ℕ) (next : List ℕ) → k ≡ at + length run → a ≡ sets l at run → b ≡ sets a k next
+    → b ≡ sets l at (run ++ next)
+more l a b at run k next place e f =
+    f
+    ∙ ap (λ (m : List ℕ). sets m k next) e
+    ∙ ap (λ (i : ℕ). sets (sets l at run) i next) place
+    ∙ stores-append l at run next
+
+pub feet-stored : (f : Feet) (at : ℕ) (l m a b c d e g : List ℕ) → m ≡ sets l at (lifts f)
+    → a ≡ sets m (at + 6) (pointBytes (foot f leftFront)) → b ≡ sets a (at + 18) (pointBytes (foot f rightFront))
+    → c ≡ sets b (at + 30) (pointBytes (foot f leftMiddle)) → d ≡ sets c (at + 42) (pointBytes (foot f rightMiddle))
+    → e ≡ sets d (at + 54) (pointBytes (foot f leftRear)) → g ≡ sets e (at + 66) (pointBytes (foot f rightRear))
+    → g ≡ sets l at (feetBytes f)
+feet-stored f at l m a b c d e g marks lf rf lm rm lr rr =
+    let first = more l m a at (lifts f) (at + 6) (pointBytes (foot f leftFront)) refl marks lf in
+    let two = more l a b at (lifts f ++ pointBytes (foot f leftFront)) (at + 18) (pointBytes (foot f rightFront)) refl first rf in
+    let run = lifts f ++ (pointBytes (foot f leftFront) ++ pointBytes (foot f rightFront)) in
+    let three = more l b c at run (at + 30) (pointBytes (foot f leftMiddle)) refl two lm in
+    let four = more l c d at (run ++ pointBytes (foot f leftMiddle)) (at + 42) (pointBytes (foot f rightMiddle)) refl three rm in
+    let long = run ++ (pointBytes (foot f leftMiddle) ++ pointBytes (foot f rightMiddle)) in
+    let five = more l d e at long (at + 54) (pointBytes (foot f leftRear)) refl four lr in
+    more l e g at (long ++ pointBytes (foot f leftRear)) (at + 66) (pointBytes (foot f rightRear)) refl five rr
