@@ -1,0 +1,16 @@
+pub mod Written
+pub mod Moving
+pub mod Looking
+pub mod InOrder
+pub mod Calls
+pub mod Coordinates
+pub mod OnePlace
+pub mod Reading
+pub mod Storing
+pub mod Exact
+pub mod Examples
+pub mod Sorted
+pub mod AsAMap
+pub mod LeftExactly
+pub mod Corollaries
+pub mod OneAnswer

@@ -1,0 +1,4 @@
+pub mod Answers
+pub mod Map
+pub mod Room
+pub mod How
