@@ -73,10 +73,15 @@ def declared(text, name):
     return found.group(1) + found.group(2) if found else None
 
 
+def is_teller(name, where):
+    """Whether a definition says what an answer tells."""
+    return name.startswith("told") and where.endswith("/Answers")
+
+
 def promised(contract, names):
     used = []
     for word in re.findall(r"«?(\w+)»?", re.sub(r"λ \w+\.", "", contract)):
-        if word in names and names[word] not in used and not names[word][0].startswith("told"):
+        if word in names and names[word] not in used and not is_teller(*names[word]):
             used.append(names[word])
     return "; ".join(f"`{name}` ({where})" for name, where in used) or "`≡`"
 

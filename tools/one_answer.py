@@ -26,7 +26,7 @@ BY_HAND = {
 LENT = {"rows-updated-from-selected-legs": ("UpdateOf", "one-update")}
 
 # Functions that change lent bytes: where the bytes stand in what the caller holds at the end, which the law settles too.
-CHANGED = {"poses-to-json": "held .1 .0 .now"}
+CHANGED = {"poses-to-json": "held .1 .0 .now"} | {f"taught-{name}": "held .0 .now" for name in ("fresh", "put", "drop")}
 
 HEAD = """-- No second answer fits: for every public function of the rooms that the face is made of, and of their public modules, what comes in settles what goes out,
 -- refusals included. Each law is stated over the function's own contract, as the checker has it (`Post`): what is passed, the answer, and what the caller

@@ -87,6 +87,23 @@ pub const JREAD: u64 = 0x6a_7265_6164;
 
 pub const JWRITE: u64 = 0x6a77_7269_7465;
 
+// Those on taught poses, which share one room.
+pub const TFRESH: u64 = 0x7466_7265_7368;
+
+pub const TPUT: u64 = 0x7470_7574;
+
+pub const TGET: u64 = 0x7467_6574;
+
+pub const TDROP: u64 = 0x74_6472_6f70;
+
+pub const TLIST: u64 = 0x74_6c69_7374;
+
+pub const TLEND: u64 = 0x74_6c65_6e64;
+
+pub const TPOKE: u64 = 0x74_706f_6b65;
+
+pub const TPEEK: u64 = 0x74_7065_656b;
+
 // Those that take and show marks.
 pub const MERGEM: u64 = 0x6d65_7267_656d;
 
@@ -117,7 +134,7 @@ pub fn shape(name: u64) -> u64 {
         MIN | MAX | ATAN2 => 0x11,
         TPROG | EPROG => 0x6464,
         SEL => 0x43,
-        SELM => 0x49,
+        SELM | TPUT => 0x49,
         UPD => 0x4483,
         UPDM => 0x44a9,
         MERGE => 0x433,
@@ -142,6 +159,8 @@ pub fn shape(name: u64) -> u64 {
         IK | IKS | FK | FKM => 0x37,
         INV | FLAG => 0x5,
         JWRITE => 0x4_4eee_eeec,
+        TGET | TDROP | TLEND => 0x4,
+        TPOKE | TPEEK => 0x44,
         _ => 0,
     }
 }

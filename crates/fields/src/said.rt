@@ -14,8 +14,11 @@ const LETTERS: u64 = 0x1_0000_0000;
 // from here on a decimal number,
 const DECIMAL: u64 = 0x2_0000_0000;
 
-// and from here on the marks of feet: so many bits as it is times 2^32 further on.
+// from here on the marks of feet, so many bits as it is times 2^32 further on, at most six,
 const MARKS: u64 = 0x3_0000_0000;
+
+// and from here on four hex digits.
+const SHORT: u64 = 0xa_0000_0000;
 
 // One word more. No answer has as many as 255.
 fn word(o: Words, x: u64) -> Words {
@@ -69,6 +72,11 @@ pub fn decimal(o: Words, n: u32) -> Words {
 // A u32 in eight hex digits.
 pub fn bits(o: Words, b: u32) -> Words {
     word(o, b as u64)
+}
+
+// A u16 in four hex digits.
+pub fn short(o: Words, n: u16) -> Words {
+    word(o, SHORT + n as u64)
 }
 
 // The bits of a float; any NaN is written as one.

@@ -56,32 +56,54 @@ fn spelled(t: Text, n: u64, base: u64, least: u64) -> Text
     t
 }
 
-// A word of an answer: eight hex digits, letters, a decimal number, or from 3 on so many bits more.
+// A word of an answer: eight hex digits, letters, a decimal number, four hex digits, or from 3 on so many bits more.
 fn word(t: Text, w: u64) -> Text {
     let n = w % 0x1_0000_0000;
     match w / 0x1_0000_0000 {
         0 => spelled(t, n, 16, 8),
         1 => spelled(t, n, 256, 1),
         2 => spelled(t, n, 10, 1),
+        10 => spelled(t, n, 16, 4),
         _ => spelled(t, n, 2, (w / 0x1_0000_0000 - 3) % 7),
     }
 }
 
-// The words parted by blanks, and a last byte.
-fn of(o: Words, last: u8) -> Text {
-    let mut t = before(
+// A last byte, and nothing before it yet.
+fn ending(last: u8) -> Text {
+    before(
         Text {
             bytes: [0; 4096],
             at: 0,
         },
         last,
-    );
+    )
+}
+
+// The words parted by blanks, and a last byte.
+fn of(o: Words, last: u8) -> Text {
+    let mut t = ending(last);
     let mut i = o[0] % 256;
     while 1 < i {
         t = before(word(t, o[i as usize]), 32);
         i -= 1;
     }
     word(t, o[1])
+}
+
+// A byte as two hex digits, before the others.
+fn byte(t: Text, b: u8) -> Text {
+    spelled(t, b as u64, 16, 2)
+}
+
+// Bytes as hex digits, and a newline. They are at most 2,047.
+fn digits(s: &[u8]) -> Text {
+    let mut t = ending(10);
+    let mut i = s.len();
+    while 0 < i {
+        i -= 1;
+        t = byte(t, s[i]);
+    }
+    t
 }
 
 // The bytes from a place on are written out.
@@ -92,12 +114,16 @@ fn written(s: &[u8], at: usize) {
     }
 }
 
-// Words and a last byte are written out.
-fn put(o: Words, last: u8) {
-    let t = of(o, last);
+// A line, or its first part, is written out.
+fn out(t: Text) {
     let at = t.at;
     let bytes = t.bytes;
     written(&bytes, at);
+}
+
+// Words and a last byte are written out.
+fn put(o: Words, last: u8) {
+    out(of(o, last));
 }
 
 // An answer is written out as a line.
@@ -110,6 +136,12 @@ pub fn begin(o: Words, s: &[u8]) {
     put(o, 32);
     io::write_all(STDOUT_FILENO, s);
     io::write_all(STDOUT_FILENO, b" ");
+}
+
+// An answer that ends with bytes is written out as a line: the bytes are hex digits, two each, as one field.
+pub fn print_bytes(o: Words, s: &[u8]) {
+    put(o, 32);
+    out(digits(s));
 }
 
 // A line is written out as it came.

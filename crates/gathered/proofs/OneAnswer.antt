@@ -22,6 +22,8 @@ use Rattle.joints.specs.Answers as joints
 use Rattle.joints.proofs.OneAnswer as joints-one
 use Rattle.poses.specs.Answers as poses
 use Rattle.poses.proofs.OneAnswer as poses-one
+use Rattle.taught.specs.Answers as taught
+use Rattle.taught.proofs.OneAnswer as taught-one
 use Rattle.walks.proofs.OneAnswer as walks-one
 use Rattle.numbers.proofs.absolute.Reads as numbers-absolute
 use Rattle.numbers.proofs.min.Reads as numbers-min
@@ -205,6 +207,11 @@ use Rattle.joints.proofs.core.calculate_fk_for_leg.Reads as joints-core-calcula
 use Rattle.joints.proofs.core.calculate_fk.Reads as joints-core-calculate-fk
 use Rattle.poses.proofs.from_json.Reads as poses-from-json
 use Rattle.poses.proofs.to_json.Reads as poses-to-json
+use Rattle.taught.proofs.fresh.Reads as taught-fresh
+use Rattle.taught.proofs.put.Reads as taught-put
+use Rattle.taught.proofs.get.Reads as taught-get
+use Rattle.taught.proofs.drop.Reads as taught-drop
+use Rattle.taught.proofs.list.Reads as taught-list
 
 -- no two answers meet the contract C
 abbrev pub Settled : {I A : Type 0} → (I → A → I → Type 0) → Type 0
@@ -783,3 +790,19 @@ settled-poses-from-json κs i = one-answer poses.told poses-one.told-loses-nothi
 
 pub settled-poses-to-json : (κs : Lfts 1) → SettledRow (λ held. held .1 .0 .now) (poses-to-json.Post κs)
 settled-poses-to-json κs i a b h k p q = (one-answer poses.toldWritten poses-one.toldWritten-loses-nothing a b (p .0) (q .0), p .1 ∙ sym (q .1))
+
+-- ---- taught
+pub settled-taught-fresh : (κs : Lfts 1) → SettledRow (λ held. held .0 .now) (taught-fresh.Post κs)
+settled-taught-fresh κs i a b h k p q = (one-answer taught.told taught-one.told-loses-nothing a b (p .0) (q .0), p .1 ∙ sym (q .1))
+
+pub settled-taught-put : (κs : Lfts 1) → SettledRow (λ held. held .0 .now) (taught-put.Post κs)
+settled-taught-put κs i a b h k p q = (one-answer taught.told taught-one.told-loses-nothing a b (p .0) (q .0), p .1 ∙ sym (q .1))
+
+pub settled-taught-get : (κs : Lfts 1) → Settled (taught-get.Post κs)
+settled-taught-get κs i = one-answer legs.told legs-one.told-loses-nothing
+
+pub settled-taught-drop : (κs : Lfts 1) → SettledRow (λ held. held .0 .now) (taught-drop.Post κs)
+settled-taught-drop κs i a b h k p q = (one-answer taught.told taught-one.told-loses-nothing a b (p .0) (q .0), p .1 ∙ sym (q .1))
+
+pub settled-taught-list : (κs : Lfts 1) → Settled (taught-list.Post κs)
+settled-taught-list κs i = one-value

@@ -67,3 +67,7 @@ pub use Rattle.poses.specs.Names as PosesNames
 pub use Rattle.poses.specs.Answers as PosesAnswers
 pub use Rattle.poses.specs.Reading as PosesReading
 pub use Rattle.poses.specs.Writing as PosesWriting
+pub use Rattle.packed.specs.Packed as PackedPacked
+pub use Rattle.taught.specs.Answers as TaughtAnswers
+pub use Rattle.taught.specs.Map as TaughtMap
+pub use Rattle.taught.specs.Room as TaughtRoom

@@ -3,3 +3,4 @@ pub mod Legs
 pub mod FootMoves
 pub mod Steps
 pub mod Joints
+pub mod Taught

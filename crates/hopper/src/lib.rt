@@ -1,4 +1,4 @@
-// The face: every public entry and type, under document 01's module names. No code.
+// The face: every public entry and type, under document 01's module names, and taught poses under a name of their own. No code.
 
 // Square root, sine, cosine, arc cosine, atan2, absolute value, min, max; floats from their bits.
 pub mod numbers {
@@ -93,4 +93,15 @@ pub mod joints {
     pub use gathered::calculate_fk;
     pub use gathered::calculate_ik;
     pub use gathered::calculate_ik_strict;
+}
+
+// Poses taught under ids, kept in bytes that the host lends.
+pub mod taught {
+    pub use gathered::Kept;
+    pub use gathered::Listed;
+    pub use gathered::drop;
+    pub use gathered::fresh;
+    pub use gathered::get;
+    pub use gathered::list;
+    pub use gathered::put;
 }

@@ -56,12 +56,20 @@ fn answer(name: u64, s: &[u8]) -> Words {
     }
 }
 
-// The answer to a line is written out.
-pub fn print(s: &[u8]) {
+// The answer to a line is written out. Lines on taught poses share a room, of which so many bytes are lent.
+pub fn print(s: &[u8], room: &mut [u8], lent: &mut usize) {
     let name = line::name(s);
     match name {
         names::JREAD => text::print(pose_lines::read(s)),
         names::JWRITE => pose_lines::write(s),
+        names::TFRESH
+        | names::TPUT
+        | names::TGET
+        | names::TDROP
+        | names::TLIST
+        | names::TLEND
+        | names::TPOKE
+        | names::TPEEK => taught_lines::print(name, s, room, lent),
         _ => text::print(answer(name, s)),
     }
 }

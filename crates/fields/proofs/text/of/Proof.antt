@@ -10,8 +10,8 @@ Inv-loop last o t₀ i₀ t i = i < 256
 abbrev μ-loop : tie.MeasureT-loop
 μ-loop last o t₀ i₀ t i = i
 
-before-requires : tie.Need-before-requires Inv-loop μ-loop
-before-requires c κs = search needs
+ending-requires : tie.Need-ending-requires Inv-loop μ-loop
+ending-requires c κs = search needs
 
 array-read-i : tie.Need-array-read-i Inv-loop μ-loop
 array-read-i c = search needs
@@ -28,8 +28,8 @@ array-read-word c = search needs
 word-requires : tie.Need-word-requires Inv-loop μ-loop
 word-requires c κs = search needs
 
-before-requires-2 : tie.Need-before-requires-2 Inv-loop μ-loop
-before-requires-2 c κs = search needs
+before-requires : tie.Need-before-requires Inv-loop μ-loop
+before-requires c κs = search needs
 
 sub-i : tie.Need-sub-i Inv-loop μ-loop
 sub-i c = search needs
@@ -55,13 +55,13 @@ of-spec =
     (tie.spec
     Inv-loop
     μ-loop
-    before-requires
+    ending-requires
     array-read-i
     loop-holds
     mul-word
     array-read-word
     word-requires
-    before-requires-2
+    before-requires
     sub-i
     loop-less
     loop-again

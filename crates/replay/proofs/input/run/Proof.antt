@@ -1,4 +1,4 @@
--- `replay::input::run` is safe and ends: the turns left fall, and both arrays keep their lengths.
+-- `replay::input::run` is safe and ends: the turns left fall, and the three arrays keep their lengths.
 use lib.ListN.{length}
 use mathlib.Core.Path.{_≡_}
 use borrow.Author.Needs.{needs}
@@ -6,10 +6,11 @@ use Rattle.replay.proofs.input.run.Statement.{statement}
 use Rattle.replay.proofs.input.run.Tie as tie
 
 abbrev Inv-loop : tie.InvT-loop
-Inv-loop kept₀ chunk₀ len₀ turns₀ kept chunk len turns = (4097 ≡ length kept) × (4096 ≡ length chunk)
+Inv-loop kept₀ room₀ lent₀ chunk₀ len₀ turns₀ kept room lent chunk len turns =
+    (4097 ≡ length kept) × (5200 ≡ length room) × (4096 ≡ length chunk)
 
 abbrev μ-loop : tie.MeasureT-loop
-μ-loop kept₀ chunk₀ len₀ turns₀ kept chunk len turns = turns
+μ-loop kept₀ room₀ lent₀ chunk₀ len₀ turns₀ kept room lent chunk len turns = turns
 
 buffer-requires : tie.Need-buffer-requires Inv-loop μ-loop
 buffer-requires c κs = search needs
@@ -44,6 +45,9 @@ array-share-prefix-chunk c = search needs
 slice-aggregate-taken-2 : tie.Need-slice-aggregate-taken-2 Inv-loop μ-loop
 slice-aggregate-taken-2 c = search needs
 
+slice-aggregate-taken-3 : tie.Need-slice-aggregate-taken-3 Inv-loop μ-loop
+slice-aggregate-taken-3 c = search needs
+
 taken-requires : tie.Need-taken-requires Inv-loop μ-loop
 taken-requires c κs = search needs
 
@@ -58,6 +62,9 @@ loop-again-2 c = search needs
 
 slice-aggregate-ended : tie.Need-slice-aggregate-ended Inv-loop μ-loop
 slice-aggregate-ended c = search needs
+
+slice-aggregate-ended-2 : tie.Need-slice-aggregate-ended-2 Inv-loop μ-loop
+slice-aggregate-ended-2 c = search needs
 
 ended-requires : tie.Need-ended-requires Inv-loop μ-loop
 ended-requires c κs = search needs
@@ -85,11 +92,13 @@ run-spec =
     slice-aggregate-taken
     array-share-prefix-chunk
     slice-aggregate-taken-2
+    slice-aggregate-taken-3
     taken-requires
     sub-turns
     loop-less-2
     loop-again-2
     slice-aggregate-ended
+    slice-aggregate-ended-2
     ended-requires
     returns
     returns-2)

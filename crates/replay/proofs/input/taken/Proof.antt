@@ -1,4 +1,4 @@
--- `replay::input::taken` is safe and ends: the place goes up to the end of the chunk, and the line keeps its length.
+-- `replay::input::taken` is safe and ends: the place goes up to the end of the chunk; the line and the room keep their lengths.
 use lib.ListN.{length}
 use mathlib.Core.Path.{_≡_}
 use Prim.Native.Nat.{_≤_, _-_}
@@ -7,10 +7,11 @@ use Rattle.replay.proofs.input.taken.Statement.{statement}
 use Rattle.replay.proofs.input.taken.Tie as tie
 
 abbrev Inv-loop : tie.InvT-loop
-Inv-loop kept₀ len s len₀ i₀ kept len' i = (i ≤ length s) × (length kept ≡ length kept₀)
+Inv-loop kept₀ len s room₀ lent₀ len₀ i₀ kept room lent len' i =
+    (i ≤ length s) × (length kept ≡ length kept₀) × (length room ≡ length room₀)
 
 abbrev μ-loop : tie.MeasureT-loop
-μ-loop kept₀ len s len₀ i₀ kept len' i = length s - i
+μ-loop kept₀ len s room₀ lent₀ len₀ i₀ kept room lent len' i = length s - i
 
 loop-holds : tie.Need-loop-holds Inv-loop μ-loop
 loop-holds c = search needs
@@ -33,6 +34,9 @@ loop-again c = search needs
 same-length : tie.Need-same-length Inv-loop μ-loop
 same-length c = search needs
 
+same-length-2 : tie.Need-same-length-2 Inv-loop μ-loop
+same-length-2 c = search needs
+
 returns : tie.Need-returns Inv-loop μ-loop
 returns c = search needs
 
@@ -49,4 +53,5 @@ taken-spec =
     loop-less
     loop-again
     same-length
+    same-length-2
     returns)
