@@ -1,14 +1,16 @@
 #!/usr/bin/env python3
-"""instructions.py FOLDER [OPERATION ..]: instructions a call of every operation of FOLDER's `side_by_side` and `poses`, or of those named, ours
-and the plain Rust reading's; of a walk the whole walk. Callgrind counts the program with one operation and one side over 1 round and over 3:
-what they differ by is that of two rounds. It is not asked who called whom, which it gets wrong on Arm. The last line has the sums of
-both sides, and their ratio."""
+"""instructions.py FOLDER [OPERATION ..]: instructions a call of every operation of FOLDER's `side_by_side`, `poses` and `taught`, or of
+those named, ours and the plain Rust reading's; of a walk the whole walk, of taught poses without what puts the room back. Callgrind counts
+the program with one operation and one side over 1 round and over 3: what they differ by is that of two rounds. It is not asked who called
+whom, which it gets wrong on Arm. The last line has the sums of both sides, and their ratio."""
 import re
 import subprocess
 import sys
 
 # With the words between the rounds and the operation.
-PROGRAMS = {sys.argv[1] + "/side_by_side": [], sys.argv[1] + "/poses": ["0"]}
+PROGRAMS = {sys.argv[1] + "/side_by_side": [], sys.argv[1] + "/poses": ["0"], sys.argv[1] + "/taught": ["0"]}
+# A third side of its operations is taken off the other two.
+TAKEN_OFF = {sys.argv[1] + "/taught": "back"}
 INPUTS = 1024  # calls in a round, as in side_by_side.rs
 ROUNDS = (1, 3)
 # One call a round.
@@ -36,6 +38,12 @@ def a_call(name, side):
     return (more - less) / (ROUNDS[1] - ROUNDS[0]) / INPUTS
 
 
+def both_sides(name):
+    off = TAKEN_OFF.get(known[name])
+    back = a_call(name, off) if off else 0
+    return [a_call(name, side) - back for side in ("ours", "Rust")]
+
+
 known = operations()
 for name in sys.argv[2:]:
     if name not in known:
@@ -43,7 +51,7 @@ for name in sys.argv[2:]:
 print(f"{'operation':27} {'ours':>9} {'Rust':>9} {'ratio':>6}")
 sums = [0, 0]
 for name in sys.argv[2:] or known:
-    pair = [a_call(name, side) for side in ("ours", "Rust")]
+    pair = both_sides(name)
     sums = [s + c for s, c in zip(sums, pair)]
     print(f"{name:27} {pair[0]:9.1f} {pair[1]:9.1f} {pair[0] / pair[1]:6.2f}", flush=True)
 print(f"instructions of one call each: {sums[0]:.0f} ours, {sums[1]:.0f} Rust's, ratio {sums[0] / sums[1]:.2f}")

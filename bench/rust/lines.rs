@@ -1,6 +1,9 @@
 // Answers operation lines (docs/OPERATIONS.md) by the plain Rust reading, for comparing with `replay`.
 mod json;
+#[path = "../taught/judge.rs"]
+mod judge;
 mod reference;
+use judge::{Call, Pose, Told};
 use reference::*;
 use std::io::{self, BufRead, Write};
 
@@ -284,7 +287,72 @@ fn written(legs: [json::Leg; 6], n: usize) -> String {
     }
 }
 
-fn answer(line: &str) -> Parsed<String> {
+/// What the lines on taught poses share, and how many bytes of it are lent.
+struct Shared {
+    room: [u8; 5200],
+    lent: usize,
+}
+
+fn told_of_taught(told: Told) -> String {
+    match told {
+        Told::Done => "ok".to_string(),
+        Told::Refused(n) => format!("R {n}"),
+        Told::Pose(pose) => {
+            let marks = pose.marks.map(|m| if m { "1" } else { "0" }).concat();
+            format!("ok{} {marks}", pose.bits.map(|b| format!(" {b:08x}")).concat())
+        }
+        Told::Ids(ids) => format!("ok {}", ids.len()) + &ids.iter().map(|id| format!(" {id:04x}")).collect::<String>(),
+    }
+}
+
+/// One of the five calls, on the bytes that are lent.
+fn call(name: &str, f: &mut Fields, shared: &mut Shared) -> Parsed<String> {
+    let id = if matches!(name, "tfresh" | "tlist") { 0 } else { u16::try_from(f.short()?).ok()? };
+    let call = match name {
+        "tfresh" => Call::Fresh,
+        "tlist" => Call::List,
+        "tget" => Call::Get(id),
+        "tdrop" => Call::Drop(id),
+        _ => {
+            let mut bits = [0; 18];
+            for b in bits.iter_mut() {
+                *b = f.float()?.to_bits();
+            }
+            Call::Put(id, Pose { marks: f.bits(6)?.try_into().ok()?, bits })
+        }
+    };
+    f.done()?;
+    let (told, after) = judge::called(&call, &shared.room[..shared.lent]);
+    shared.room[..shared.lent].copy_from_slice(&after);
+    Some(told_of_taught(told))
+}
+
+/// The host's own hand, or a call.
+fn on_taught(name: &str, f: &mut Fields, shared: &mut Shared) -> Parsed<String> {
+    match name {
+        "tlend" => {
+            let n = f.short()? as usize;
+            f.done()?;
+            shared.room.get(..n)?;
+            shared.lent = n;
+        }
+        "tpoke" => {
+            let (at, b) = (f.short()? as usize, u8::try_from(f.short()?).ok());
+            f.done()?;
+            *shared.room.get_mut(at)? = b?;
+        }
+        "tpeek" => {
+            let (at, n) = (f.short()? as usize, f.short()? as usize);
+            f.done()?;
+            let shown = shared.room.get(at..at + n).filter(|_| (1..=0x80).contains(&n))?;
+            return Some("ok ".to_string() + &shown.iter().map(|b| format!("{b:02x}")).collect::<String>());
+        }
+        _ => return call(name, f, shared),
+    }
+    Some("ok".to_string())
+}
+
+fn answer(line: &str, shared: &mut Shared) -> Parsed<String> {
     let mut f = Fields { rest: line.split(' '), marks: false };
     let word = f.rest.next()?;
     let name = word.strip_suffix('m').filter(|name| MARKED.contains(name)).unwrap_or(word);
@@ -431,6 +499,7 @@ fn answer(line: &str) -> Parsed<String> {
             let c = [90_f32.to_radians(), (-90_f32).to_radians(), 150_f32.to_radians(), std::f32::consts::PI, f32::EPSILON, 0.03];
             "ok".to_string() + &c.map(float).concat()
         }
+        "tfresh" | "tput" | "tget" | "tdrop" | "tlist" | "tlend" | "tpoke" | "tpeek" => return on_taught(name, &mut f, shared),
         _ => return on_commands(name, &mut f),
     })
 }
@@ -438,13 +507,14 @@ fn answer(line: &str) -> Parsed<String> {
 fn main() {
     let stdin = io::stdin();
     let mut out = io::BufWriter::new(io::stdout());
+    let mut shared = Shared { room: [0xff; 5200], lent: 5120 };
     for line in stdin.lock().split(b'\n') {
         let line = line.unwrap();
         if line.is_empty() || line[0] == b'#' {
             out.write_all(&line).unwrap();
         } else {
             let text = if line.len() <= 4096 { std::str::from_utf8(&line).ok() } else { None };
-            let said = text.and_then(answer).unwrap_or_else(|| "E".to_string());
+            let said = text.and_then(|line| answer(line, &mut shared)).unwrap_or_else(|| "E".to_string());
             out.write_all(said.as_bytes()).unwrap();
         }
         out.write_all(b"\n").unwrap();
