@@ -63,7 +63,8 @@ module _ (f : Fraction → Fraction) (p m : List ℕ) (a b : ℕ) (pos : 0 < b)
   step-is : (k : ℕ) → (k * a) ÷ b ≋ whole k ⊗ (a ÷ b)
   step-is k = omega arith
 
-  scaled : (scale k : ℕ) → difference (scale * ev b (k * a) p) (scale * ev b (k * a) m) (denominator b) ≋ whole scale ⊗ f
+  -- scale times the sum at a place, over the common denominator
+  pub scaled : (scale k : ℕ) → difference (scale * ev b (k * a) p) (scale * ev b (k * a) m) (denominator b) ≋ whole scale ⊗ f
       (whole k ⊗ (a ÷ b))
   scaled scale k =
       let x = k * a in
