@@ -23,7 +23,7 @@ pub extern "C" fn hopper_leg_step(
 ) -> u32
     ensures { λ r. ⌜ (r ≡ refusal (point sx sy sz) (point tx ty tz) height progress)
         × (point (now (x .exit)) (now (y .exit)) (now (z .exit))
-          ≡ stored (point sx sy sz) (point tx ty tz) height progress (point (now (x .entry)) (now (y .entry)) (now (z .entry)))) ⌝ }
+        ≡ stored (point sx sy sz) (point tx ty tz) height progress (point (now (x .entry)) (now (y .entry)) (now (z .entry)))) ⌝ }
 {
     let start = WholePoint {
         x: sx,

@@ -3,5 +3,6 @@ pub mod Ranges
 pub mod Door
 pub mod Listed
 pub mod Rule
-mod Steps
+pub mod Steps
 pub mod OneAnswer
+pub mod Exactly
