@@ -6,3 +6,5 @@ pub mod Rule
 pub mod Steps
 pub mod OneAnswer
 pub mod Exactly
+pub mod Examples
+pub mod Laws

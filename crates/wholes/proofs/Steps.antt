@@ -3,7 +3,7 @@
 use Prim.Native.Nat.{ℕ, _+_, _-_, _*_, _/_, _≤_, _<_}
 use mathlib.Core.Path.{_≡_, refl, sym, ap, ap₂, _∙_, subst}
 use mathlib.Core.Bool.{Bool, true, false, _&&_}
-use native.Mathlib.Nat.{mul-le-mul}
+use native.Mathlib.Nat.{le-trans, mul-le-mul, mul-le-mul-left}
 use native.Mathlib.Omega.{arith}
 use lib.Dec.{T, leb, eqb, lit<}
 use lib.IntN.{ℤ, pos, negsuc, natAbs, _+ℤ_, _-ℤ_, _*ℤ_}
@@ -143,11 +143,11 @@ module _ (s : ℤ) (n : ℕ) (S : isCoordinate s ≡ true) (N : n ≤ 1000) wher
   raised-read = ap read raised-is ∙ as-read (s +ℤ pos n) raised-fits
 
 -- a share of a height by an entry is at most the height
+pub share-below : (h e : ℕ) → e ≤ 16384 → h * e / 16384 ≤ h
+share-below h e E = let l : h * e ≤ h * 16384 = mul-le-mul-left h E in omega arith
+
 pub share-most : (h e : ℕ) → h ≤ 1000 → e ≤ 16384 → h * e / 16384 ≤ 1000
-share-most h e H E = div-le-of (mul-le-mul H E)
-  where
-    div-le-of : h * e ≤ 16384000 → h * e / 16384 ≤ 1000
-    div-le-of l = omega arith
+share-most h e H E = le-trans (share-below h e E) H
 
 -- ---- a height or a progress, as a natural number
 module _ (n : ℤ) (k : ℕ) (K : k ≤ 2048) (N : (n ≡ pos (natAbs n)) × (natAbs n ≤ k)) where
@@ -177,7 +177,7 @@ used-below p h = chosen (λ (k : ℕ). k < 1025) (leb p 1024) p (2048 - p) (λ e
     second : 1024 < p → 2048 - p < 1025
     second l = omega arith
 
-used-most : (p : ℕ) → p ≤ 2048 → entry (used p) ≤ tableScale
+pub used-most : (p : ℕ) → p ≤ 2048 → entry (used p) ≤ tableScale
 used-most p h = entry-most (used p) (used-below p h)
 
 pub same-point : {a b c d e f : ℤ} → a ≡ d → b ≡ e → c ≡ f
