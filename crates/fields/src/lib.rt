@@ -6,6 +6,7 @@ pub mod line;
 pub mod names;
 pub mod said;
 pub mod text;
+pub mod whole;
 
 // The numbers of a line, or the words of an answer.
 pub type Words = [u64; 256];

@@ -1,5 +1,6 @@
 // A line of text as words: its fields are parted by single blanks, and its shape says what kind each of them is.
 use crate::Words;
+use crate::whole;
 use lines::digits::Digits;
 ghost use Prim.Native.Nat.{_≤_, _<_};
 ghost use lib.ListN.{length};
@@ -14,12 +15,14 @@ const UNSAID: u64 = 11;
 
 const VALUE_BITS: u64 = 13;
 
-// Kinds that it does: a float, six bits, and the first word of a leg, which may be `-` for the whole leg.
+// Kinds that it does: a float, six bits, the first word of a leg, which may be `-` for the whole leg, and a whole number in decimal.
 const FLOAT: u64 = 1;
 
 const SIX_BITS: u64 = 12;
 
 const LEG: u64 = 14;
+
+const WHOLE: u64 = 15;
 
 // The word of a leg that is null, which is no float's.
 pub const NULL: u64 = 0x1_0000_0000;
@@ -96,7 +99,7 @@ fn values_of(given: u64) -> u64 {
 // How many words a kind has. Feet have their marks behind them, said or not.
 fn count_of(kind: u64, given: u64) -> u64 {
     match kind {
-        FLOAT | 4 | 5 | 6 | SIX_BITS => 1,
+        FLOAT | 4 | 5 | 6 | SIX_BITS | WHOLE => 1,
         2 | LEG => 3,
         3 | 9 => 19,
         7 => 41,
@@ -150,7 +153,7 @@ fn takes(kind: u64, digits: usize, value: u64, given: u64) -> bool {
         0 | UNSAID => false,
         4 => digits <= 8,
         5 => (digits == 1) & (value < 2),
-        6 => true,
+        6 | WHOLE => true,
         SIX_BITS => digits == 6,
         VALUE_BITS => digits as u64 == given,
         LEG => (digits == 8) | ((digits == 1) & (value == NULL)),
@@ -206,6 +209,8 @@ fn number(s: &[u8], kind: u64) -> Digits {
             good: true,
             value: NULL,
         }
+    } else if kind == WHOLE {
+        whole::read(s)
     } else {
         lines::digits::hex(s, 1, 16)
     }

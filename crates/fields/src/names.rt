@@ -104,6 +104,9 @@ pub const TPOKE: u64 = 0x74_706f_6b65;
 
 pub const TPEEK: u64 = 0x74_7065_656b;
 
+// The one in whole numbers.
+pub const WSTEP: u64 = 0x77_7374_6570;
+
 // Those that take and show marks.
 pub const MERGEM: u64 = 0x6d65_7267_656d;
 
@@ -127,7 +130,7 @@ pub const FKM: u64 = 0x66_6b6d;
 
 // What a line holds after its name, a hex digit each: 1 a float, 2 a point, 3 a row, 4 a u32, 5 a bit, 6 seconds,
 // 7 a configuration, 8 as many points as the number before says; 9 a row with its marks, a as many feet as the number before says,
-// their marks behind them; c six bits, e a point or `-`. A time is 64, a command 2_6415.
+// their marks behind them; c six bits, e a point or `-`, f a whole number. A time is 64, a command 2_6415.
 pub fn shape(name: u64) -> u64 {
     match name {
         ABS | SQRT | SIN | COS | ACOS | BITS => 0x1,
@@ -161,6 +164,7 @@ pub fn shape(name: u64) -> u64 {
         JWRITE => 0x4_4eee_eeec,
         TGET | TDROP | TLEND => 0x4,
         TPOKE | TPEEK => 0x44,
+        WSTEP => 0xffff_ffff,
         _ => 0,
     }
 }

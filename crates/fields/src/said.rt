@@ -17,8 +17,11 @@ const DECIMAL: u64 = 0x2_0000_0000;
 // from here on the marks of feet, so many bits as it is times 2^32 further on, at most six,
 const MARKS: u64 = 0x3_0000_0000;
 
-// and from here on four hex digits.
+// from here on four hex digits,
 const SHORT: u64 = 0xa_0000_0000;
+
+// and from here on a whole number in decimal, with 2^31 added.
+const WHOLE: u64 = 0xb_0000_0000;
 
 // One word more. No answer has as many as 255.
 fn word(o: Words, x: u64) -> Words {
@@ -77,6 +80,11 @@ pub fn bits(o: Words, b: u32) -> Words {
 // A u16 in four hex digits.
 pub fn short(o: Words, n: u16) -> Words {
     word(o, SHORT + n as u64)
+}
+
+// A whole number in decimal, given with 2^31 added.
+pub fn whole(o: Words, n: u32) -> Words {
+    word(o, WHOLE + n as u64)
 }
 
 // The bits of a float; any NaN is written as one.

@@ -1,5 +1,6 @@
 // The words of an answer as a line of text, put together from its end, and written out.
 use crate::Words;
+use crate::whole;
 use libc::STDOUT_FILENO;
 ghost use Prim.Native.Nat.{_<_};
 
@@ -56,7 +57,16 @@ fn spelled(t: Text, n: u64, base: u64, least: u64) -> Text
     t
 }
 
-// A word of an answer: eight hex digits, letters, a decimal number, four hex digits, or from 3 on so many bits more.
+// A whole number in decimal, given with 2^31 added.
+fn whole(t: Text, n: u64) -> Text {
+    if n < whole::ZERO {
+        before(spelled(t, whole::ZERO - n, 10, 1), b'-')
+    } else {
+        spelled(t, n - whole::ZERO, 10, 1)
+    }
+}
+
+// A word of an answer: eight hex digits, letters, a decimal number, four hex digits, a whole number, or from 3 on so many bits more.
 fn word(t: Text, w: u64) -> Text {
     let n = w % 0x1_0000_0000;
     match w / 0x1_0000_0000 {
@@ -64,6 +74,7 @@ fn word(t: Text, w: u64) -> Text {
         1 => spelled(t, n, 256, 1),
         2 => spelled(t, n, 10, 1),
         10 => spelled(t, n, 16, 4),
+        11 => whole(t, n),
         _ => spelled(t, n, 2, (w / 0x1_0000_0000 - 3) % 7),
     }
 }
