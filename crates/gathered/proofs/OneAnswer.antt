@@ -24,6 +24,8 @@ use Rattle.poses.specs.Answers as poses
 use Rattle.poses.proofs.OneAnswer as poses-one
 use Rattle.taught.specs.Answers as taught
 use Rattle.taught.proofs.OneAnswer as taught-one
+use Rattle.wholes.specs.Answers as wholes
+use Rattle.wholes.proofs.OneAnswer as wholes-one
 use Rattle.walks.proofs.OneAnswer as walks-one
 use Rattle.numbers.proofs.absolute.Reads as numbers-absolute
 use Rattle.numbers.proofs.min.Reads as numbers-min
@@ -212,6 +214,7 @@ use Rattle.taught.proofs.put.Reads as taught-put
 use Rattle.taught.proofs.get.Reads as taught-get
 use Rattle.taught.proofs.drop.Reads as taught-drop
 use Rattle.taught.proofs.list.Reads as taught-list
+use Rattle.wholes.proofs.step_leg.Reads as wholes-step-leg
 
 -- no two answers meet the contract C
 abbrev pub Settled : {I A : Type 0} → (I → A → I → Type 0) → Type 0
@@ -806,3 +809,7 @@ settled-taught-drop κs i a b h k p q = (one-answer taught.told taught-one.told-
 
 pub settled-taught-list : (κs : Lfts 1) → Settled (taught-list.Post κs)
 settled-taught-list κs i = one-value
+
+-- ---- wholes
+pub settled-wholes-step-leg : Settled (wholes-step-leg.Post tt)
+settled-wholes-step-leg i = one-answer wholes.told wholes-one.told-loses-nothing

@@ -71,3 +71,5 @@ pub use Rattle.packed.specs.Packed as PackedPacked
 pub use Rattle.taught.specs.Answers as TaughtAnswers
 pub use Rattle.taught.specs.Map as TaughtMap
 pub use Rattle.taught.specs.Room as TaughtRoom
+pub use Rattle.wholes.specs.Wholes as WholesWholes
+pub use Rattle.wholes.specs.Answers as WholesAnswers

@@ -82,3 +82,6 @@ pub use taught::put;
 pub use walks::Walked;
 pub use walks::walk;
 pub use walks::walk_feet;
+pub use wholes::WholePoint;
+pub use wholes::WholeStep;
+pub use wholes::step_leg;

@@ -4,3 +4,4 @@ pub mod FootMoves
 pub mod Steps
 pub mod Joints
 pub mod Taught
+pub mod Wholes

@@ -1,4 +1,5 @@
-// The face: every public entry and type, under document 01's module names, and taught poses under a name of their own. No code.
+// The face: every public entry and type, under document 01's module names; taught poses and the step in whole numbers under names of
+// their own. No code.
 
 // Square root, sine, cosine, arc cosine, atan2, absolute value, min, max; floats from their bits.
 pub mod numbers {
@@ -104,4 +105,11 @@ pub mod taught {
     pub use gathered::get;
     pub use gathered::list;
     pub use gathered::put;
+}
+
+// One leg's step in whole numbers of 0.1 mm, for a board that has no floats.
+pub mod wholes {
+    pub use gathered::WholePoint;
+    pub use gathered::WholeStep;
+    pub use gathered::step_leg;
 }
