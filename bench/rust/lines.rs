@@ -120,6 +120,11 @@ impl<'a> Fields<'a> {
         let good = !f.is_empty() && f.len() % 2 == 0 && f.bytes().all(|b| matches!(b, b'0'..=b'9' | b'a'..=b'f'));
         if good { (0..f.len()).step_by(2).map(|i| u8::from_str_radix(&f[i..i + 2], 16).ok()).collect() } else { None }
     }
+    /// A whole number in decimal, as it is written: no plus, no 0 in front, no minus before 0.
+    fn whole(&mut self) -> Parsed<i32> {
+        let f = self.rest.next()?;
+        f.parse().ok().filter(|n: &i32| n.to_string() == f)
+    }
     fn done(&mut self) -> Parsed<()> {
         if self.rest.next().is_none() { Some(()) } else { None }
     }
@@ -352,6 +357,28 @@ fn on_taught(name: &str, f: &mut Fields, shared: &mut Shared) -> Parsed<String> 
     Some("ok".to_string())
 }
 
+/// The sine of the step in whole numbers: 16384 times the sine of k parts of 2048 of the f32 nearest to pi, to the nearest. An f64 is far
+/// nearer to it than any tie is.
+fn whole_sine(k: i64) -> i64 {
+    let part = std::f32::consts::PI as f64 / 2048.0;
+    (16384.0 * (k as f64 * part).sin()).round() as i64
+}
+
+/// The step in whole numbers: start, target, height, progress.
+fn on_wholes(n: [i64; 8]) -> Result<[i64; 3], Refusal> {
+    let [sx, sy, sz, tx, ty, tz, height, progress] = n;
+    let good = n[..6].iter().all(|c| c.abs() <= 40_000) && (0..=1_000).contains(&height) && (0..=2_048).contains(&progress);
+    if !good {
+        return Err(2);
+    }
+    if progress == 2_048 {
+        return Ok([tx, ty, tz]);
+    }
+    let sideways = |s: i64, t: i64| s + ((t - s) * progress).div_euclid(2_048);
+    let up = (height * whole_sine(progress.min(2_048 - progress))).div_euclid(16_384);
+    Ok([sideways(sx, tx), sideways(sy, ty), sz + up])
+}
+
 fn answer(line: &str, shared: &mut Shared) -> Parsed<String> {
     let mut f = Fields { rest: line.split(' '), marks: false };
     let word = f.rest.next()?;
@@ -498,6 +525,14 @@ fn answer(line: &str, shared: &mut Shared) -> Parsed<String> {
             f.done()?;
             let c = [90_f32.to_radians(), (-90_f32).to_radians(), 150_f32.to_radians(), std::f32::consts::PI, f32::EPSILON, 0.03];
             "ok".to_string() + &c.map(float).concat()
+        }
+        "wstep" => {
+            let mut n = [0; 8];
+            for m in n.iter_mut() {
+                *m = f.whole()? as i64;
+            }
+            f.done()?;
+            told(on_wholes(n), |point| point.map(|c| format!(" {c}")).concat())
         }
         "tfresh" | "tput" | "tget" | "tdrop" | "tlist" | "tlend" | "tpoke" | "tpeek" => return on_taught(name, &mut f, shared),
         _ => return on_commands(name, &mut f),

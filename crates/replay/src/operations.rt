@@ -70,6 +70,7 @@ pub fn print(s: &[u8], room: &mut [u8], lent: &mut usize) {
         | names::TLEND
         | names::TPOKE
         | names::TPEEK => taught_lines::print(name, s, room, lent),
+        names::WSTEP => text::print(whole_lines::answer(s)),
         _ => text::print(answer(name, s)),
     }
 }
