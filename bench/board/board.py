@@ -23,6 +23,7 @@ ROOM = {
     "command": "commands", "should_move": "commands", "plan": "planner", "ik": "joints", "ik_strict": "joints", "fk": "joints",
     "from_json": "poses", "to_json": "poses",
     "taught_fresh": "taught", "taught_put": "taught", "taught_get": "taught", "taught_drop": "taught", "taught_list": "taught",
+    "whole_step": "wholes",
 }
 # Entries once more, with the state after a step: for bench/every alone, counted nowhere.
 ONCE_MORE = ["probe_next_step", "probe_next_timed", "probe_next_even"]
