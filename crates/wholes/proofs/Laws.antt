@@ -123,9 +123,10 @@ raised s h p P =
     let n = h * entry (used p) / tableScale in
     let l : n ≤ h = share-below h (entry (used p)) (used-most p P) in
     let a = sum-made s (pos n) in
-    let b = sum-made s (pos h) in
-    (le-of-parts s (s +ℤ pos n) (omega (arith, a .level)),
-    le-of-parts (s +ℤ pos n) (s +ℤ pos h) (omega (arith, a .level, b .level, l)))
+    let b = sum-made s (pos h) in (
+      le-of-parts s (s +ℤ pos n) (omega (arith, a .level)),
+      le-of-parts (s +ℤ pos n) (s +ℤ pos h) (omega (arith, a .level, b .level, l)),
+    )
 
 pub z-between : (s t : WholePoint) (h p : ℕ) → p < 2048
     → (s .z ≤ℤ wholeStep s t h p .z) × (wholeStep s t h p .z ≤ℤ (s .z +ℤ pos h))

@@ -21,10 +21,10 @@ pub record Near (x : Float) (r : ℤ) : Type 0 where
   pub above : value x ≼ length r ⊕ (11 ÷ 100000)
   pub below : length r ≼ value x ⊕ (1 ÷ 100000)
 
-abbrev fraction : ℕ → ℕ → Fraction
+abbrev pub fraction : ℕ → ℕ → Fraction
 fraction p n = record { plus = p; minus = n; over = unity }
 
-part-value : (x : Float) (p n : ℕ) → Part binary32 x p n → value x ≋ fraction p n
+pub part-value : (x : Float) (p n : ℕ) → Part binary32 x p n → value x ≋ fraction p n
 part-value nan p n h = absurd h
 part-value (inf s) p n h = absurd h
 part-value (fin false m e) p n h = plus-side (m * up e) (down e) unity p n (h .0) (h .1)

@@ -117,7 +117,7 @@ module _ (w : ℕ) (h : w < 64 * (unity * unity)) where
       regrouped : (u v : ℕ) → 64 * u ≡ v → 64 * (u * u) * u ≡ v * (u * u)
       regrouped u v e = omega (arith, ap (λ (z : ℕ). z * (u * u)) e)
 
-  product-held : rounded w (unity * unity) < overflow binary32
+  pub product-held : rounded w (unity * unity) < overflow binary32
   product-held = lt-of-le-of-lt (grid-le binary32 w (unity * unity) 131 square room) (lit< tt)
 
   product-close : Within (rounded w (unity * unity) * unity) w (unity * (8 * small))
@@ -152,22 +152,24 @@ module _ (x y : Float) (p n q : ℕ) (a : Part binary32 x p n) (b : HasValue y f
     where
       none : (k : ℕ) → k ≡ 0 → (rounded (k * q) (unity * unity) * unity ≡ 0) × (k * q ≡ 0)
       none k z =
-          let e : k * q ≡ 0 = ap (λ (w : ℕ). w * q) z ∙ zero-mul q in
-          (ap (λ (w : ℕ). rounded w (unity * unity) * unity) e
-          ∙ ap (λ (w : ℕ). w * unity) (grid-zero binary32 (unity * unity) (mul-pos unity-pos unity-pos)) ∙ zero-mul unity, e)
+          let e : k * q ≡ 0 = ap (λ (w : ℕ). w * q) z ∙ zero-mul q in (
+            ap (λ (w : ℕ). rounded w (unity * unity) * unity) e
+                ∙ ap (λ (w : ℕ). w * unity) (grid-zero binary32 (unity * unity) (mul-pos unity-pos unity-pos)) ∙ zero-mul unity,
+            e,
+          )
 
 -- ---- a length that is given in units of 0.1 mm, from -4 m to 4 m
 module _ (n : ℕ) (h : n ≤ 40000) where
   below-8 : n * unity < 2 ^ (24 + 128) * 10000
   below-8 = lt-of-le-of-lt (mul-le-mul-right unity h) (lit< tt)
 
-  length-held : rounded n 10000 < overflow binary32
+  pub length-held : rounded n 10000 < overflow binary32
   length-held = lt-of-le-of-lt (grid-le binary32 n 10000 128 (lit< tt) below-8) (lit< tt)
 
   pub length-most : rounded n 10000 ≤ 2 ^ 152
   length-most = grid-le binary32 n 10000 128 (lit< tt) below-8
 
-  length-close : Within (rounded n 10000 * 10000) (n * unity) (10000 * small)
+  pub length-close : Within (rounded n 10000 * 10000) (n * unity) (10000 * small)
   length-close = grid-close n 10000 128 small (lit< tt) refl below-8
 
 pub record Length (x : Float) (p n : ℕ) : Type 0 where
@@ -196,7 +198,7 @@ length-of (negsuc n) h =
       plus = 0;
       minus = rounded (suc n) 10000;
       part = minus-part binary32 (round binary32 true (suc n) 10000) (rounded (suc n) 10000)
-      (round-value binary32 true (suc n) 10000 (length-held (suc n) l));
+          (round-value binary32 true (suc n) 10000 (length-held (suc n) l));
       close = below-zero (refl, refl) (length-close (suc n) l);
       plus-most = zero-le;
       minus-most = length-most (suc n) l;

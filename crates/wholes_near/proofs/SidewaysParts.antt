@@ -6,7 +6,7 @@ use native.Mathlib.Nat.{mul-le-mul-left, mul-le-mul-right}
 use native.Mathlib.Omega.{arith}
 use Rattle.wholes_near.proofs.Apart.{Apart, times}
 
--- R, in units, is from r - 0.1 to r + 1.1
+-- R - N, in units, is from r - 0.1 to r + 1.1
 pub record Close (u R N r n : ℕ) : Type 0 where
   pub high : 10 * (10000 * R + n * u) ≤ 10 * (10000 * N + r * u) + 11 * u
   pub low : 10 * (10000 * N + r * u) ≤ 10 * (10000 * R + n * u) + u
@@ -75,12 +75,12 @@ module _ (e u p s s' t t' S S' T T' D D' M M' R R' r r' : ℕ) (unit : u ≡ 419
   pub sideways-close : Close u R R' r r'
   sideways-close = record {
     high =
-      divided e u R R' (r * u) (r' * u) unit
-      (multiplied e u p s s' t t' S S' T T' D D' M M' R R' r r' 2048 few (place .up) (share .up) (way .up) (target .up) (start .low)
-      (start .up) within-1);
+        divided e u R R' (r * u) (r' * u) unit
+        (multiplied e u p s s' t t' S S' T T' D D' M M' R R' r r' 2048 few (place .up) (share .up) (way .up) (target .up) (start .low)
+        (start .up) within-1);
     low =
-      divided' e u R' R (r' * u) (r * u) unit
-      (multiplied e u p s' s t' t S' S T' T D' D M' M R' R r' r 0 few (omega (arith, place .low)) (omega (arith, share .low))
-      (omega (arith, way .low)) (omega (arith, target .low)) (omega (arith, start .up)) (omega (arith, start .low))
-      (omega (arith, at-most)));
+        divided' e u R' R (r' * u) (r * u) unit
+        (multiplied e u p s' s t' t S' S T' T D' D M' M R' R r' r 0 few (omega (arith, place .low)) (omega (arith, share .low))
+        (omega (arith, way .low)) (omega (arith, target .low)) (omega (arith, start .up)) (omega (arith, start .low))
+        (omega (arith, at-most)));
   }
