@@ -37,14 +37,21 @@ pub extern "C" fn hopper_leg_step(
     };
     match wholes::step_leg(start, target, height, progress) {
         WholeStep::At(foot) => {
-            let at = foot.x;
-            *x = at;
-            let at = foot.y;
-            *y = at;
-            let at = foot.z;
-            *z = at;
+            store(foot, x, y, z);
             0
         }
         WholeStep::Refused(n) => n,
     }
+}
+
+// A foot's point goes into three lent numbers.
+fn store(foot: WholePoint, x: &mut i32, y: &mut i32, z: &mut i32)
+    ensures { λ _. ⌜ point (now (x .exit)) (now (y .exit)) (now (z .exit)) ≡ foot ⌝ }
+{
+    let at = foot.x;
+    *x = at;
+    let at = foot.y;
+    *y = at;
+    let at = foot.z;
+    *z = at;
 }

@@ -45,11 +45,14 @@ module _ (start target : WholePoint) (height progress : ℤ) where
   target-good e = and-right (isPlace start) (isPlace target) (places e)
 
 module _ (p : WholePoint) (h : isPlace p ≡ true) where
+  x-and-y : (isCoordinate (p .x) && isCoordinate (p .y)) ≡ true
+  x-and-y = and-left (isCoordinate (p .x) && isCoordinate (p .y)) (isCoordinate (p .z)) h
+
   pub x-good : isCoordinate (p .x) ≡ true
-  x-good = and-left (isCoordinate (p .x)) (isCoordinate (p .y)) (and-left (isCoordinate (p .x) && isCoordinate (p .y)) (isCoordinate (p .z)) h)
+  x-good = and-left (isCoordinate (p .x)) (isCoordinate (p .y)) x-and-y
 
   pub y-good : isCoordinate (p .y) ≡ true
-  y-good = and-right (isCoordinate (p .x)) (isCoordinate (p .y)) (and-left (isCoordinate (p .x) && isCoordinate (p .y)) (isCoordinate (p .z)) h)
+  y-good = and-right (isCoordinate (p .x)) (isCoordinate (p .y)) x-and-y
 
   pub z-good : isCoordinate (p .z) ≡ true
   z-good = and-right (isCoordinate (p .x) && isCoordinate (p .y)) (isCoordinate (p .z)) h

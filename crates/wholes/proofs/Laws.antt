@@ -53,7 +53,8 @@ abbrev pub underWay : WholePoint → WholePoint → ℕ → ℕ → WholePoint
 underWay s t h p = record { x = sideways (s .x) (t .x) p; y = sideways (s .y) (t .y) p; z = upwards (s .z) h p }
 
 pub under-way : (s t : WholePoint) (h p : ℕ) → p < 2048 → wholeStep s t h p ≡ underWay s t h p
-under-way s t h p l = sym (where-false (eqb p 2048) t (underWay s t h p) (ne-eqb p 2048 (λ e. lt-irrefl 2048 (subst (λ (n : ℕ). n < 2048) e l))))
+under-way s t h p l =
+    sym (where-false (eqb p 2048) t (underWay s t h p) (ne-eqb p 2048 (λ e. lt-irrefl 2048 (subst (λ (n : ℕ). n < 2048) e l))))
 
 pub z-by-its-own : (s t s' t' : WholePoint) (h p : ℕ) → p < 2048 → s .z ≡ s' .z → wholeStep s t h p .z ≡ wholeStep s' t' h p .z
 z-by-its-own s t s' t' h p l e =
@@ -104,7 +105,11 @@ sideways-between s t p h =
 -- where it is done it is at the target
 at-its-end : (s t : ℤ) → Between s t t
 unfolding Between
-at-its-end s t = elim (lt-or-le (plus t + minus s) (plus s + minus t)) [ inl h ↦ inr (≤ℤ-refl t, le-of-parts t s (le-of-lt h)) | inr h ↦ inl (le-of-parts s t h, ≤ℤ-refl t) ]
+at-its-end s t =
+    elim (lt-or-le (plus t + minus s) (plus s + minus t)) [
+      | inl h ↦ inr (≤ℤ-refl t, le-of-parts t s (le-of-lt h))
+      | inr h ↦ inl (le-of-parts s t h, ≤ℤ-refl t)
+    ]
 
 module _ (s t : WholePoint) (h p : ℕ) (P : p ≤ 2048) where
   either-way : (f : WholePoint → ℤ) → Between (f s) (f t) (f (underWay s t h p)) → Between (f s) (f t) (f (wholeStep s t h p))

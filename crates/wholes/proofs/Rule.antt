@@ -4,7 +4,8 @@ use Prim.Native.Nat.{ℕ, zero, suc, _+_, _-_, _*_, _/_, _^_, _≤_, _<_}
 use mathlib.Core.Path.{_≡_, refl, sym, subst}
 use mathlib.Core.Bool.{Bool, true, false}
 use mathlib.Core.List.{List, [], _∷_}
-use native.Mathlib.Nat.{le-antisymm, le-of-lt, le-of-suc-le-suc, lt-of-mul-lt-mul-left, mul-pos, mul-le-mul-left, le-of-mul-le-mul-left, le-div-iff-mul-le, div-lt-iff-lt-mul}
+use native.Mathlib.Nat.{le-antisymm, le-of-lt, le-of-suc-le-suc, mul-pos, mul-le-mul-left, le-of-mul-le-mul-left, lt-of-mul-lt-mul-left}
+use native.Mathlib.Nat.{le-div-iff-mul-le, div-lt-iff-lt-mul}
 use native.Mathlib.Omega.{arith}
 use lib.Dec.{T, leb, ltb, leb→le, ltb→lt, le→leb, lit<}
 use lib.ListN.{length, getD}

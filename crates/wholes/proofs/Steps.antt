@@ -64,7 +64,8 @@ module _ (s a : ℤ) (d : ℕ) (D : 0 < d) (S : isCoordinate s ≡ true) (P : pl
 
   place-is : (z : ℤ) → z ≡ a → read s +ℤ read (shrZ z d) ≡ s +ℤ down a d
   place-is z e =
-      ap₂ (λ (x y : ℤ). x +ℤ y) (coordinate-read s S) (ap (λ (w : ℤ). read (shrZ w d)) e ∙ ap read (shift-is a d) ∙ as-read (down a d) share-fits)
+      ap₂ (λ (x y : ℤ). x +ℤ y) (coordinate-read s S)
+      (ap (λ (w : ℤ). read (shrZ w d)) e ∙ ap read (shift-is a d) ∙ as-read (down a d) share-fits)
 
   place-read-fits : (z : ℤ) → z ≡ a → SFits w32 (read s +ℤ read (shrZ z d))
   place-read-fits z e = subst (λ (w : ℤ). SFits w32 w) (sym (place-is z e)) place-fits

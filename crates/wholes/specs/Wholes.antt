@@ -51,7 +51,8 @@ entry k = nearest (whole tableScale ⊗ S (whole k ⊗ tableStep))
 abbrev pub used : ℕ → ℕ
 used p = choose (leb p 1024) p (2048 - p)
 
--- ---- "Height and sideways shares are rounded down": n / d, towards minus infinity. Below 0 it is of -(n + 1), whose share is -(n / d + 1).
+-- ---- "Height and sideways shares are rounded down", towards minus infinity: n / d; and below 0, where `negsuc n` is -(n + 1), its
+-- share is -(n / d + 1)
 abbrev pub down : ℤ → ℕ → ℤ
 down (pos n) d = pos (n / d)
 down (negsuc n) d = negsuc (n / d)

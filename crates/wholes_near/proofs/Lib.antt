@@ -11,3 +11,4 @@ pub mod Upwards
 pub mod Ends
 pub mod Permitted
 pub mod Theorem
+pub mod Examples

@@ -13,7 +13,7 @@ use Rattle.series.specs.Fractions.{Fraction, _÷_, _⊕_, _≋_, _≼_, Within,
 use Rattle.series.proofs.Fractions.{same-sym, sum-same, le-same}
 use Rattle.series.proofs.Values.{value-over}
 use Rattle.wholes.proofs.Parts.{plus, minus}
-use Rattle.wholes_near.specs.Metres.{length, units}
+use Rattle.wholes_near.specs.Metres.{length, nearEnough}
 use Rattle.wholes_near.proofs.SidewaysParts.{Close}
 
 -- x is at most 1.1 units above r units, and at most 0.1 below
@@ -71,17 +71,24 @@ module _ (x : Float) (p n : ℕ) (r : ℤ) (a : Part binary32 x p n) (c : Close 
 
       below-it : record { plus = plus r; minus = minus r; over = 10000 } ≼ value x ⊕ (1 ÷ 100000)
       below-it =
-          le-same whole whole (fraction p n ⊕ (1 ÷ 100000)) (value x ⊕ (1 ÷ 100000)) (lit< tt) (mul-pos unity-pos (lit< {m = 0} {n = 100000} tt)) refl
+          le-same whole whole (fraction p n ⊕ (1 ÷ 100000)) (value x ⊕ (1 ÷ 100000)) (lit< tt)
+          (mul-pos unity-pos (lit< {m = 0} {n = 100000} tt)) refl
           (sum-same (fraction p n) (value x) (1 ÷ 100000) (1 ÷ 100000) back refl) (low unity p n (plus r) (minus r) (c .low))
 
--- ---- so it is within 2 units
+-- ---- so it is near enough
+abbrev enough : ℕ
+enough = nearEnough .plus
+
 module _ (x : Float) (r : ℤ) (h : Near x r) where
-  pub within-2 : Within (units 2) (value x) (length r)
-  within-2 = (
-    wider (value x .plus) (value x .minus) (value x .over) (length r .plus) (length r .minus) (length r .over) 11 (lit≤ tt) (h .above),
-    wider (length r .plus) (length r .minus) (length r .over) (value x .plus) (value x .minus) (value x .over) 1 (lit≤ tt) (h .below),
+  pub near-enough : Within nearEnough (value x) (length r)
+  near-enough = (
+    wider (value x .plus) (value x .minus) (value x .over) (length r .plus) (length r .minus) (length r .over) 11 enough
+        (lit≤ {m = 11} {n = 10 * enough} tt) (h .above),
+    wider (length r .plus) (length r .minus) (length r .over) (value x .plus) (value x .minus) (value x .over) 1 enough
+        (lit≤ {m = 1} {n = 10 * enough} tt) (h .below),
   )
     where
-      wider : (p m d q n g k : ℕ) → k ≤ 20 → p * (g * 100000) + (n * 100000 + 0 * g) * d ≤ (q * 100000 + k * g) * d + m * (g * 100000)
-          → p * (g * 10000) + (n * 10000 + 0 * g) * d ≤ (q * 10000 + 2 * g) * d + m * (g * 10000)
-      wider p m d q n g k l h = omega (arith, mul-le-mul-right (g * d) l, h)
+      wider : (p m d q n g k j : ℕ) → k ≤ 10 * j
+          → p * (g * 100000) + (n * 100000 + 0 * g) * d ≤ (q * 100000 + k * g) * d + m * (g * 100000)
+          → p * (g * 10000) + (n * 10000 + 0 * g) * d ≤ (q * 10000 + j * g) * d + m * (g * 10000)
+      wider p m d q n g k j l h = omega (arith, mul-le-mul-right (g * d) l, h)

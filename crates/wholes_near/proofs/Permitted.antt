@@ -1,5 +1,5 @@
--- None of the f32 step's floats is outside document 01's table: a point's coordinates are within 4 m, a height within 1 m, and a progress is
--- a number. So the f32 step refuses none of them. Assumes nothing.
+-- None of the f32 step's floats is outside document 01's table: a point's coordinates are within 4 m, a height within 1 m, and a progress
+-- is a number. So the f32 step refuses none of them. Assumes nothing.
 use Prim.Native.Nat.{ℕ, suc, _+_, _*_, _^_, _≤_, _<_, zero-le}
 use mathlib.Core.Path.{_≡_, refl, sym, subst}
 use mathlib.Core.Bool.{true, false, _&&_}
@@ -76,7 +76,8 @@ height-permitted h l =
     permits-part direction 0 unity unity 0 direction-ends (round binary32 false h 10000) (rounded h 10000) 0
     (plus-part binary32 (round binary32 false h 10000) (rounded h 10000)
     (round-value binary32 false h 10000 (length-held h (le-trans l (lit≤ tt))))) zero-le
-    (below (rounded h 10000) unity (subst (λ (w : ℕ). rounded h 10000 ≤ w) (one-times unity) (not-past h 1 (lit≤ tt) (le-trans l (lit≤ tt)))))
+    (below (rounded h 10000) unity
+    (subst (λ (w : ℕ). rounded h 10000 ≤ w) (one-times unity) (not-past h 1 (lit≤ tt) (le-trans l (lit≤ tt)))))
   where
     one-times : (u : ℕ) → 1 * u ≡ u
     one-times u = omega arith

@@ -101,10 +101,12 @@ grid-close a c j e C is h =
     halved g n up low = record { up = omega arith; low = omega arith }
 
 above-zero : {g h i j e : ℕ} → (h ≡ 0) × (j ≡ 0) → Within g i e → Apart e g h i j
-above-zero {g} {h} {i} {j} {e} z w = let a = z .0 in let b = z .1 in record { up = omega (arith, w .up, a, b); low = omega (arith, w .low, a, b) }
+above-zero {g} {h} {i} {j} {e} z w =
+    let a = z .0 in let b = z .1 in record { up = omega (arith, w .up, a, b); low = omega (arith, w .low, a, b) }
 
 below-zero : {g h i j e : ℕ} → (g ≡ 0) × (i ≡ 0) → Within h j e → Apart e g h i j
-below-zero {g} {h} {i} {j} {e} z w = let a = z .0 in let b = z .1 in record { up = omega (arith, w .low, a, b); low = omega (arith, w .up, a, b) }
+below-zero {g} {h} {i} {j} {e} z w =
+    let a = z .0 in let b = z .1 in record { up = omega (arith, w .low, a, b); low = omega (arith, w .up, a, b) }
 
 -- ---- a product of x by q units: below 64 square metres
 module _ (w : ℕ) (h : w < 64 * (unity * unity)) where
@@ -145,7 +147,11 @@ module _ (x y : Float) (p n q : ℕ) (a : Part binary32 x p n) (b : HasValue y f
     plus = rounded (p * q) (unity * unity);
     minus = rounded (n * q) (unity * unity);
     part = mul-part binary32 x y false p n q a b (product-held (p * q) I) (product-held (n * q) J);
-    close = elim (one-side binary32 x p n a) [ inl z ↦ below-zero (none p z) (product-close (n * q) J) | inr z ↦ above-zero (none n z) (product-close (p * q) I) ];
+    close =
+        elim (one-side binary32 x p n a) [
+          | inl z ↦ below-zero (none p z) (product-close (n * q) J)
+          | inr z ↦ above-zero (none n z) (product-close (p * q) I)
+        ];
     plus-most = product-close (p * q) I .up;
     minus-most = product-close (n * q) J .up;
   }

@@ -26,9 +26,9 @@ use Rattle.wholes.specs.Wholes.{isCoordinate, isPlace, wholeStep}
 use Rattle.wholes.specs.declared.WholePoint.{WholePoint}
 use Rattle.wholes.proofs.Door.{x-good, y-good, z-good}
 use Rattle.wholes.proofs.Laws.{underWay, under-way}
-use Rattle.wholes_near.specs.Metres.{metres, inMetres, progressOf, floatStep, length, units}
+use Rattle.wholes_near.specs.Metres.{metres, inMetres, progressOf, floatStep, length, nearEnough}
 use Rattle.wholes_near.proofs.Rounding.{progress-value}
-use Rattle.wholes_near.proofs.Near.{Near, within-2}
+use Rattle.wholes_near.proofs.Near.{Near, near-enough}
 use Rattle.wholes_near.proofs.Sideways.{sideways-near}
 use Rattle.wholes_near.proofs.Upwards.{upwards-near}
 use Rattle.wholes_near.proofs.Ends.{target-near}
@@ -109,11 +109,11 @@ module _ (start target : WholePoint) (h p : ℕ) (last : Point) (S : isPlace sta
       (upwards-near (start .z) h p (z-good start S) H l))
 
   -- so each is within 2 units
-  pub x-within-2 : Within (units 2) (value (floatStep start target h p last .x)) (length (wholeStep start target h p .x))
-  x-within-2 = within-2 (floatStep start target h p last .x) (wholeStep start target h p .x) near-x
+  pub x-within-2 : Within nearEnough (value (floatStep start target h p last .x)) (length (wholeStep start target h p .x))
+  x-within-2 = near-enough (floatStep start target h p last .x) (wholeStep start target h p .x) near-x
 
-  pub y-within-2 : Within (units 2) (value (floatStep start target h p last .y)) (length (wholeStep start target h p .y))
-  y-within-2 = within-2 (floatStep start target h p last .y) (wholeStep start target h p .y) near-y
+  pub y-within-2 : Within nearEnough (value (floatStep start target h p last .y)) (length (wholeStep start target h p .y))
+  y-within-2 = near-enough (floatStep start target h p last .y) (wholeStep start target h p .y) near-y
 
-  pub z-within-2 : Within (units 2) (value (floatStep start target h p last .z)) (length (wholeStep start target h p .z))
-  z-within-2 = within-2 (floatStep start target h p last .z) (wholeStep start target h p .z) near-z
+  pub z-within-2 : Within nearEnough (value (floatStep start target h p last .z)) (length (wholeStep start target h p .z))
+  z-within-2 = near-enough (floatStep start target h p last .z) (wholeStep start target h p .z) near-z

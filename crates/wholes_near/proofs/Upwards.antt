@@ -19,7 +19,8 @@ use Rattle.wholes.specs.Wholes.{isCoordinate, tableScale, used, entry, upwards}
 use Rattle.wholes.proofs.Parts.{plus, minus, Made, sum-made}
 use Rattle.wholes.proofs.Steps.{used-most}
 use Rattle.wholes_near.specs.Metres.{metres, progressOf}
-use Rattle.wholes_near.proofs.Rounding.{small, Result, sum, Product, product, Length, length-of, length-held, length-close, length-most}
+use Rattle.wholes_near.proofs.Rounding.{small, Result, sum, Product, product, Length, length-of}
+use Rattle.wholes_near.proofs.Rounding.{length-held, length-close, length-most}
 use Rattle.wholes_near.proofs.UpwardsParts.{upwards-close}
 use Rattle.wholes_near.proofs.Wave.{argument}
 use Rattle.wholes_near.proofs.Sine.{sine-part, sine-close, sine-most}
@@ -66,12 +67,12 @@ module _ (s : ℤ) (h p : ℕ) (S : isCoordinate s ≡ true) (H : h ≤ 1000) (P
       let y = sine (argument p) in
       let k = rounded h 10000 in
       let a = length-of s S in
+      let tall = length-most h (low h H) in
       let m = product y (metres (pos h)) (hi y) (lo y) k (sine-part p few) (height-value h H)
-      (product-room (hi y) k (sine-most p P .0) (length-most h (low h H))) (product-room (lo y) k (sine-most p P .1) (length-most h (low h H))) in
+      (product-room (hi y) k (sine-most p P .0) tall) (product-room (lo y) k (sine-most p P .1) tall) in
       let r = sum (mul binary32 y (metres (pos h))) (metres s) (m .plus) (m .minus) (a .plus) (a .minus) (m .part) (a .part)
-      (place-room (m .plus) (a .plus) (product-most (m .plus) (hi y) k (m .plus-most) (sine-most p P .0) (length-most h (low h H))) (a .plus-most))
-      (place-room (m .minus) (a .minus) (product-most (m .minus) (lo y) k (m .minus-most) (sine-most p P .1) (length-most h (low h H)))
-      (a .minus-most)) in
+      (place-room (m .plus) (a .plus) (product-most (m .plus) (hi y) k (m .plus-most) (sine-most p P .0) tall) (a .plus-most))
+      (place-room (m .minus) (a .minus) (product-most (m .minus) (lo y) k (m .minus-most) (sine-most p P .1) tall) (a .minus-most)) in
       let n = h * entry (used p) / 16384 in
       let w = length-close h (low h H) in
       near-of-close (add binary32 (above (metres (pos h)) (progressOf p) false) (metres s)) (r .plus) (r .minus) (upwards s h p) (r .part)

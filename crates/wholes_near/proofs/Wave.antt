@@ -52,10 +52,13 @@ high d p m e = leb (tableScale * p) (e * d + tableScale * m + d)
 abbrev near-entry : ℕ → ℕ → ℕ → ℕ → Bool
 near-entry d p m e = both (low d p m e) (high d p m e)
 
+-- at n counts, with the entry that p uses
+abbrev near-used : ℕ → ℕ → Bool
+near-used p n = near-entry (denominator fine) (eval (spread fine sinP) n) (eval (spread fine sinM) n) (getD table (used p) 0)
+
 abbrev at-count : ℕ → ℕ → Bool
 at-count p n =
-    both (eqb (n * 2 ^ 116) (mag (argument p)))
-    (near-entry (denominator fine) (eval (spread fine sinP) n) (eval (spread fine sinM) n) (getD table (used p) 0))
+    both (eqb (n * 2 ^ 116) (mag (argument p))) (near-used p n)
 
 row : ℕ → ℕ → Bool
 row p x = at-count p (count p)
@@ -75,7 +78,8 @@ half-way v p h =
     subst (λ (n : ℕ). Part binary32 (argument p) (rounded (p * 2 ^ 138 * (13176795 * small)) (unity * unity)) n) none
     (mul-part binary32 (progressOf p) halfTurn false (p * 2 ^ 138) 0 (13176795 * small)
     (plus-part binary32 (progressOf p) (p * 2 ^ 138) (progress-value p h)) v
-    (product-held (p * 2 ^ 138 * (13176795 * small)) (lt-of-le-of-lt (mul-le-mul-right (13176795 * small) (mul-le-mul-right (2 ^ 138) h)) (lit< tt)))
+    (product-held (p * 2 ^ 138 * (13176795 * small))
+    (lt-of-le-of-lt (mul-le-mul-right (13176795 * small) (mul-le-mul-right (2 ^ 138) h)) (lit< tt)))
     (product-held (0 * (13176795 * small)) (lit< tt)))
   where
     none : rounded (0 * (13176795 * small)) (unity * unity) ≡ 0
@@ -102,7 +106,7 @@ module _ (p : ℕ) (h : p < 2048) where
   whole-count =
       eqb→eq (count p * 2 ^ 116) (mag (argument p))
       (both-l (eqb (count p * 2 ^ 116) (mag (argument p)))
-      (near-entry (denominator fine) (eval (spread fine sinP) (count p)) (eval (spread fine sinM) (count p)) (getD table (used p) 0)) passed)
+      (near-used p (count p)) passed)
       ∙ magnitude p (le-of-lt h)
 
   argument-value : value (argument p) ≋ count p ÷ fine
@@ -127,7 +131,7 @@ module _ (p : ℕ) (h : p < 2048) where
       (entry-at (used p) (used-below p (le-of-lt h)))
       (rw (ev-spread fine sinP (count p), ev-spread fine sinM (count p)) at
       (both-r (eqb (count p * 2 ^ 116) (mag (argument p)))
-      (near-entry (denominator fine) (eval (spread fine sinP) (count p)) (eval (spread fine sinM) (count p)) (getD table (used p) 0)) passed))
+      (near-used p (count p)) passed))
 
   pub wave : Within (1 ÷ tableScale) (S (value (argument p))) (entry (used p) ÷ tableScale)
   wave =

@@ -32,5 +32,6 @@ abbrev pub length : ℤ → Fraction
 length (pos n) = n ÷ 10000
 length (negsuc n) = negative (suc n ÷ 10000)
 
-abbrev pub units : ℕ → Fraction
-units n = n ÷ 10000
+-- how far apart the two may be: 2 units
+abbrev pub nearEnough : Fraction
+nearEnough = 2 ÷ 10000
