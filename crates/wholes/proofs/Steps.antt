@@ -74,17 +74,21 @@ module _ (s a : ℤ) (d : ℕ) (D : 0 < d) (S : isCoordinate s ≡ true) (P : pl
   place-read z e = ap read (place-is z e) ∙ as-read (s +ℤ down a d) place-fits
 
 -- ---- x and y: the way, and its part by the progress
-module _ (s t : ℤ) (p : ℕ) (S : isCoordinate s ≡ true) (D : isCoordinate t ≡ true)
-    (P : p ≤ 2048) where
+pub record InRange (s t : ℤ) (p : ℕ) : Type 0 where
+  pub start : isCoordinate s ≡ true
+  pub target : isCoordinate t ≡ true
+  pub progress : p ≤ 2048
+
+module _ (s t : ℤ) (p : ℕ) (G : InRange s t p) where
   way-most : (plus (t -ℤ s) ≤ 80000) × (minus (t -ℤ s) ≤ 80000)
   way-most =
       let m = difference-made t s in
-      let a = coordinate s S in
-      let b = coordinate t D in
+      let a = coordinate s (G .start) in
+      let b = coordinate t (G .target) in
       (omega (arith, m .plus-most, a .minus-most, b .plus-most), omega (arith, m .minus-most, a .plus-most, b .minus-most))
 
   way-is : read t -ℤ read s ≡ t -ℤ s
-  way-is = ap₂ (λ (x y : ℤ). x -ℤ y) (coordinate-read t D) (coordinate-read s S)
+  way-is = ap₂ (λ (x y : ℤ). x -ℤ y) (coordinate-read t (G .target)) (coordinate-read s (G .start))
 
   way-fits : SFits w32 (t -ℤ s)
   way-fits = fits (t -ℤ s) (omega (arith, way-most .0, way-most .1))
@@ -98,13 +102,13 @@ module _ (s t : ℤ) (p : ℕ) (S : isCoordinate s ≡ true) (D : isCoordinate t
   part-most : (plus part ≤ 163840000) × (minus part ≤ 163840000)
   unfolding part
   part-most = (
-    subst (λ (w : ℕ). w ≤ 163840000) (sym (times-plus (t -ℤ s) p)) (mul-le-mul (way-most .0) P),
-    subst (λ (w : ℕ). w ≤ 163840000) (sym (times-minus (t -ℤ s) p)) (mul-le-mul (way-most .1) P),
+    subst (λ (w : ℕ). w ≤ 163840000) (sym (times-plus (t -ℤ s) p)) (mul-le-mul (way-most .0) (G .progress)),
+    subst (λ (w : ℕ). w ≤ 163840000) (sym (times-minus (t -ℤ s) p)) (mul-le-mul (way-most .1) (G .progress)),
   )
 
   part-is : read (read t -ℤ read s) *ℤ read (pos p) ≡ part
   unfolding part
-  part-is = ap₂ (λ (x y : ℤ). x *ℤ y) (ap read way-is ∙ as-read (t -ℤ s) way-fits) (as-read (pos p) (natural-fits p P))
+  part-is = ap₂ (λ (x y : ℤ). x *ℤ y) (ap read way-is ∙ as-read (t -ℤ s) way-fits) (as-read (pos p) (natural-fits p (G .progress)))
 
   part-fits : SFits w32 part
   part-fits = fits part (omega (arith, part-most .0, part-most .1))
@@ -117,14 +121,14 @@ module _ (s t : ℤ) (p : ℕ) (S : isCoordinate s ≡ true) (D : isCoordinate t
 
   pub sideways-within : SFits w32 (sideways s t p)
   unfolding part
-  sideways-within = place-fits s part 2048 (lit< tt) S (part-most .0) (part-most .1)
+  sideways-within = place-fits s part 2048 (lit< tt) (G .start) (part-most .0) (part-most .1)
 
   pub sideways-fits : SFits w32 (read s +ℤ read (shrZ (read (read (read t -ℤ read s) *ℤ read (pos p))) 2048))
-  sideways-fits = place-read-fits s part 2048 (lit< tt) S (part-most .0) (part-most .1) _ part-read
+  sideways-fits = place-read-fits s part 2048 (lit< tt) (G .start) (part-most .0) (part-most .1) _ part-read
 
   pub sideways-read : read (read s +ℤ read (shrZ (read (read (read t -ℤ read s) *ℤ read (pos p))) 2048)) ≡ sideways s t p
   unfolding part
-  sideways-read = place-read s part 2048 (lit< tt) S (part-most .0) (part-most .1) _ part-read
+  sideways-read = place-read s part 2048 (lit< tt) (G .start) (part-most .0) (part-most .1) _ part-read
 
 -- ---- z: a start and a natural share
 module _ (s : ℤ) (n : ℕ) (S : isCoordinate s ≡ true) (N : n ≤ 1000) where
@@ -203,10 +207,10 @@ module _ (start target : WholePoint) (h p : ℕ) (A : isPlace start ≡ true) (B
         let tx = x-good target B in
         let ty = y-good target B in
         let X : read x ≡ sideways (start .x) (target .x) p =
-        answered x _ (sideways-within (start .x) (target .x) p sx tx P)
+        answered x _ (sideways-within (start .x) (target .x) p (record { start = sx; target = tx; progress = P }))
         (ex ∙ ap₂ (λ (a b : ℤ). sideways a b p) (coordinate-read (start .x) sx) (coordinate-read (target .x) tx)) in
         let Y : read y ≡ sideways (start .y) (target .y) p =
-        answered y _ (sideways-within (start .y) (target .y) p sy ty P)
+        answered y _ (sideways-within (start .y) (target .y) p (record { start = sy; target = ty; progress = P }))
         (ey ∙ ap₂ (λ (a b : ℤ). sideways a b p) (coordinate-read (start .y) sy) (coordinate-read (target .y) ty)) in
         let Z : read z ≡ upwards (start .z) h p =
         answered z _ (raised-fits (start .z) (h * entry (used p) / 16384) sz (share-most h (entry (used p)) H (used-most p P)))

@@ -2,7 +2,7 @@
 -- ranges, and every last that is not at the target: more exactly, the f32 step is at most 1.1 units above the whole step and at most 0.1
 -- below it. And none of its floats is outside document 01's table. Assumes nothing.
 use Prim.Native.Nat.{ℕ, _+_, _*_, _^_, _≤_, _<_}
-use mathlib.Core.Path.{_≡_, refl, sym, subst}
+use mathlib.Core.Path.{_≡_, refl, sym, subst, subst₂}
 use mathlib.Core.Bool.{Bool, true, false}
 use mathlib.Core.Logic.{_⊎_, inl, inr}
 use native.Mathlib.Nat.{le-of-lt, le-antisymm, mul-lt-mul-of-pos-right}
@@ -59,13 +59,16 @@ unfolding one over progressOf round le
 done = refl
 
 -- ---- the f32 step's point: under way, and done
+abbrev floatUnderWay : WholePoint → WholePoint → ℕ → ℕ → Point
+floatUnderWay start target h p =
+    record {
+      x = partWay (progressOf p) (metres (start .x)) (metres (target .x));
+      y = partWay (progressOf p) (metres (start .y)) (metres (target .y));
+      z = add binary32 (above (metres (pos h)) (progressOf p) false) (metres (start .z));
+    }
+
 module _ (start target : WholePoint) (h : ℕ) (last : Point) (away : same last (inMetres target) ≡ false) where
-  float-under-way : (p : ℕ) → p < 2048 → floatStep start target h p last
-      ≡ record {
-        x = partWay (progressOf p) (metres (start .x)) (metres (target .x));
-        y = partWay (progressOf p) (metres (start .y)) (metres (target .y));
-        z = add binary32 (above (metres (pos h)) (progressOf p) false) (metres (start .z));
-      }
+  float-under-way : (p : ℕ) → p < 2048 → floatStep start target h p last ≡ floatUnderWay start target h p
   unfolding floatStep stepLiftedLeg pointOf
   float-under-way p l = rw (away, not-done p l) refl
 
@@ -76,14 +79,16 @@ module _ (start target : WholePoint) (h : ℕ) (last : Point) (away : same last 
 -- ---- the theorem: each coordinate from 0.1 unit below to 1.1 above
 module _ (start target : WholePoint) (h p : ℕ) (last : Point) (S : isPlace start ≡ true) (D : isPlace target ≡ true) (H : h ≤ 1000)
     (P : p ≤ 2048) (away : same last (inMetres target) ≡ false) where
-  -- what holds of a step under way and of the target holds of the step
+  -- what holds of the target, and of a step under way, holds of the step
   either-way : (f : Point → Float) (g : WholePoint → ℤ) → Near (f (inMetres target)) (g target)
-      → (p < 2048 → Near (f (floatStep start target h p last)) (g (underWay start target h p)))
+      → (p < 2048 → Near (f (floatUnderWay start target h p)) (g (underWay start target h p)))
       → Near (f (floatStep start target h p last)) (g (wholeStep start target h p))
   either-way f g end way = elim (lt-or-le p 2048) [ inl l ↦ before l | inr l ↦ after (le-antisymm l P) ]
     where
       before : p < 2048 → Near (f (floatStep start target h p last)) (g (wholeStep start target h p))
-      before l = subst (λ (w : WholePoint). Near (f (floatStep start target h p last)) (g w)) (sym (under-way start target h p l)) (way l)
+      before l =
+          subst₂ (λ (q : Point) (w : WholePoint). Near (f q) (g w)) (sym (float-under-way start target h last away p l))
+          (sym (under-way start target h p l)) (way l)
 
       after : 2048 ≡ p → Near (f (floatStep start target h p last)) (g (wholeStep start target h p))
       after e =
@@ -93,20 +98,17 @@ module _ (start target : WholePoint) (h p : ℕ) (last : Point) (S : isPlace sta
   pub near-x : Near (floatStep start target h p last .x) (wholeStep start target h p .x)
   near-x =
       either-way (λ q. q .x) (λ q. q .x) (target-near (target .x) (x-good target D))
-      (λ l. subst (λ (q : Point). Near (q .x) (underWay start target h p .x)) (sym (float-under-way start target h last away p l))
-      (sideways-near (start .x) (target .x) p (x-good start S) (x-good target D) P))
+      (λ l. sideways-near (start .x) (target .x) p (x-good start S) (x-good target D) P)
 
   pub near-y : Near (floatStep start target h p last .y) (wholeStep start target h p .y)
   near-y =
       either-way (λ q. q .y) (λ q. q .y) (target-near (target .y) (y-good target D))
-      (λ l. subst (λ (q : Point). Near (q .y) (underWay start target h p .y)) (sym (float-under-way start target h last away p l))
-      (sideways-near (start .y) (target .y) p (y-good start S) (y-good target D) P))
+      (λ l. sideways-near (start .y) (target .y) p (y-good start S) (y-good target D) P)
 
   pub near-z : Near (floatStep start target h p last .z) (wholeStep start target h p .z)
   near-z =
       either-way (λ q. q .z) (λ q. q .z) (target-near (target .z) (z-good target D))
-      (λ l. subst (λ (q : Point). Near (q .z) (underWay start target h p .z)) (sym (float-under-way start target h last away p l))
-      (upwards-near (start .z) h p (z-good start S) H l))
+      (λ l. upwards-near (start .z) h p (z-good start S) H l)
 
   -- so each is within 2 units
   pub x-within-2 : Within nearEnough (value (floatStep start target h p last .x)) (length (wholeStep start target h p .x))
