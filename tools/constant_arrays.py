@@ -17,7 +17,7 @@ import sys
 # In bytes. What is shorter is most often a record, which the compiler keeps in registers.
 SHORTEST = 64
 BYTES = {"i8": 1, "i16": 2, "i32": 4, "i64": 8, "float": 4}
-FUNCTION = re.compile(r'define .*?@("[^"]*"|[\w.$-]+)\(.*\{')
+FUNCTION = re.compile(r'define .*?@(?:"([^"]*)"|([\w.$-]+))\(.*\{')
 ARRAY = re.compile(r"  (%[\w.]+) = alloca \[(\d+) x i8\], align (\d+)")
 STORE = re.compile(r"  store (i8|i16|i32|i64|float) (-?\d[\w.+-]*), ptr (%[\w.]+), align \d+")
 PLACE = re.compile(r"  (%[\w.]+) = getelementptr (?:inbounds |nuw )*i8, ptr (%[\w.]+), i64 (\d+)")
@@ -58,9 +58,9 @@ class Module:
     def __init__(self):
         self.lines, self.constants, self.moved = [], {}, []
 
-    def copy(self, run, align):
-        """Writes the copy that takes a run's place."""
-        name, widest = self.constants.get(run.constant(), (f"@constant.{len(self.constants)}", 1))
+    def copy(self, run, align, function):
+        """Writes the copy that takes a run's place. A constant has its number and the first function that reads it in its name."""
+        name, widest = self.constants.get(run.constant(), (f'@"{function}.array.{len(self.constants)}"', 1))
         self.constants[run.constant()] = name, max(align, widest)
         self.lines.append(f"  call void @{COPY}(ptr align {align} {run.array}, ptr align {align} {name}, i64 {run.bytes()}, i1 false)")
 
@@ -71,7 +71,7 @@ class Module:
             array, store = ARRAY.fullmatch(lines[at]), STORE.fullmatch(lines[at])
             run = Run(lines, at) if store and store[3] in arrays and store[3] not in touched else None
             if run and SHORTEST <= run.bytes() == arrays[run.array].bytes and all(uses[place] == 2 for place in run.places):
-                self.copy(run, arrays[run.array].align)
+                self.copy(run, arrays[run.array].align, name)
                 self.moved.append(f"{name}: {len(run.values)} x {run.type}")
                 touched.add(run.array)
                 at += run.lines
@@ -95,7 +95,7 @@ def staged(lines):
         head = FUNCTION.match(lines[at])
         end = lines.index("}", at) + 1 if head else at + 1
         if head:
-            module.function(head[1], lines[at:end])
+            module.function(head[1] or head[2], lines[at:end])
         else:
             module.lines.append(lines[at])
         at = end
@@ -112,7 +112,7 @@ def main():
         f.write("\n".join(module.lines) + "\n")
     for moved in module.moved:
         print("constant_arrays:", moved)
-    print(f"constant_arrays: {len(module.moved)} arrays moved to {len(module.constants)} constants")
+    print(f"constant_arrays: arrays moved: {len(module.moved)}, to constants: {len(module.constants)}")
 
 
 main()
