@@ -2,8 +2,9 @@
 """board.py NAME LIBRARY WORDS
 What a library compiled for a board takes there: bytes by room, what it wants from outside, the deepest stack, the bytes of the
 four angle functions and the root; and what a board's flash would hold, linked with the compiler's routines: bytes, what of them
-comes from outside, f64 routines and f64 instructions. Ends with status 1 where there is f64. WORDS are the compiler's, for
-linking. Needs the binutils and the libraries of gcc-arm-none-eabi."""
+comes from outside, f64 routines and f64 instructions. Ends with status 1 where there is f64. Of the library of `leg_board`, which has
+one entry, bytes, wants, stack and flash against its goals, and status 1 where one is missed. WORDS are the compiler's, for linking.
+Needs the binutils and the libraries of gcc-arm-none-eabi."""
 import collections
 import functools
 import os
@@ -29,6 +30,12 @@ ROOM = {
 ONCE_MORE = ["probe_next_step", "probe_next_timed", "probe_next_even"]
 FIVE = ["probe_sine", "probe_cosine", "probe_arc_cosine", "probe_atan2", "probe_square_root"]
 GOAL = 6 * 1024
+# The leg board's entry, and its goals in bytes.
+LEG = "hopper_leg_step"
+LEG_FLASH = 3 * 1024
+LEG_STACK = 128
+# A routine on floats of either width by its name: __aeabi_fadd, __aeabi_cfcmple, __aeabi_i2f, __aeabi_f2iz, __addsf3, __floatsisf.
+FLOAT = re.compile(r"__aeabi_(c?[fd]|[a-z]+2[fd])|__\w*[sd]f")
 # A routine on f64 by its name: __aeabi_dadd, __aeabi_cdcmple, __aeabi_d2f, __aeabi_f2d, __adddf3, __truncdfsf2.
 DOUBLE = re.compile(r"__aeabi_(c?d|[a-z]+2d)|__\w*df")
 # An instruction on f64. Loads and copies of a double register have none of these names: a unit for f32 alone has them too.
@@ -43,6 +50,8 @@ def tool(name, *words):
 
 
 def room(name):
+    if name == LEG:
+        return "leg_board"
     if name.startswith("probe_"):
         return ROOM.get(name[6:].split(".")[0], "steps")
     return name.split("::")[0] if "::" in name else "shared constants"
@@ -58,7 +67,7 @@ def sections(path):
 
 
 def owner(section):
-    return re.sub(r"^\.(text|rodata)\.(\.Lswitch\.table\.)?(str[0-9.]*|cst[0-9.]*)?", "", section)
+    return re.sub(r"^\.(text|rodata)\.(\.L(switch\.table\.)?)?(str[0-9.]*|cst[0-9.]*)?", "", section)
 
 
 def largest(path):
@@ -81,6 +90,7 @@ def wanted(path):
     names = sorted({line.split()[-1] for line in tool("nm", "-u", path).splitlines() if " U " in line})
     print("  wanted from outside:", ", ".join(names) or "nothing")
     print("  heap among them:", ", ".join(n for n in names if HEAP.search(n)) or "none")
+    return names
 
 
 def link(words, path, out, keep, libraries):
@@ -197,20 +207,41 @@ def deepest(elf, scratch):
             deep[f], path[f] = frames[f] + below[0], below[1]
         return deep[f]
 
-    entries = sorted(((depth(f), f) for f, n in name_at.items() if n.startswith("probe_")), reverse=True)
-    print("  stack by entry: " + ", ".join(f"{name_at[f][6:]} {d}" for d, f in entries))
+    entries = sorted(((depth(f), f) for f, n in name_at.items() if n.startswith("probe_") or n == LEG), reverse=True)
+    print("  stack by entry: " + ", ".join(f"{name_at[f].removeprefix('probe_')} {d}" for d, f in entries))
     top = entries[0]
     chain, f = [], top[1]
     while f is not None:
         chain.append(f"{name_at[f]} {frames[f]}")
         f = path[f]
     print(f"  deepest stack: {top[0]} bytes: " + ", ".join(chain))
+    return top[0]
+
+
+def leg_board(name, path, words):
+    """The board that links one entry. Whether its goals are met."""
+    print(f"{name}, leg_board, -Os ({words})")
+    by_room(path)
+    floats = [n for n in wanted(path) if FLOAT.match(n)]
+    print("  routines on floats among them:", ", ".join(floats) or "none")
+    with tempfile.TemporaryDirectory() as scratch:
+        elf = link(words, path, os.path.join(scratch, "leg"), [LEG], ["-lc", "-lgcc"])
+        flash, outside = sum(bytes_of(elf)), sum(from_outside(elf, path).values())
+        stack = deepest(elf, scratch)
+    print(f"  linked image: {flash} bytes, of which {outside} from outside")
+    goals = [(flash <= LEG_FLASH, f"{flash} bytes of code and table, goal {LEG_FLASH}"),
+             (stack <= LEG_STACK, f"{stack} bytes of stack, goal {LEG_STACK}"),
+             (not floats, f"{len(floats)} routines on floats, goal 0")]
+    print(f"{name}, leg_board: " + ", ".join(f"{what}: {'met' if met else 'missed'}" for met, what in goals))
+    return all(met for met, _ in goals)
 
 
 def main():
     if len(sys.argv) != 4:
         sys.exit(__doc__)
     name, path, words = sys.argv[1:]
+    if f" T {LEG}\n" in tool("nm", path):
+        sys.exit(0 if leg_board(name, path, words) else 1)
     print(f"{name}, -Os ({words})")
     by_room(path)
     largest(path)

@@ -8,9 +8,10 @@ import math
 import os
 import random
 import struct
-import subprocess
 import sys
-import tempfile
+
+sys.path.append(os.path.dirname(os.path.dirname(os.path.abspath(__file__))))
+import emulated
 
 INPUTS = 300
 CLOSE = 2.0**-20
@@ -42,43 +43,13 @@ def made_calls():
     return calls
 
 
-def tool(name, *words):
-    return subprocess.run(["arm-none-eabi-" + name, *words], capture_output=True, text=True, check=True).stdout
-
-
-def symbols(program):
-    """Address and bytes of each symbol that has a size."""
-    found = (line.split() for line in tool("nm", "-S", program).splitlines())
-    return {f[3]: (int(f[0], 16) & ~1, int(f[1], 16)) for f in found if len(f) == 4}
-
-
 def run(program, calls):
-    """The calls as they come back, and for each the instructions between the entry and the return."""
-    at = symbols(program)
-    begin, size = at["make_calls"]
-    entries = {at[f"{side}_{name}"][0] for name, *_ in FUNCTIONS for side in SIDES}
-    counts, inside = [], False
-    # One instruction a block, by the names of older and of newer emulators; each executed block is one line.
-    alone = dict(os.environ, QEMU_SINGLESTEP="1", QEMU_ONE_INSN_PER_TB="1")
-    with tempfile.TemporaryFile() as given, tempfile.TemporaryFile() as back:
-        given.write(b"".join(CALL.pack(k, x, y, 9, 0.0) for k, x, y, _ in calls).ljust(ROOM * CALL.size, b"\0"))
-        given.seek(0)
-        # The emulated processor knows the instructions of both boards.
-        words = ["qemu-arm", "-cpu", "cortex-a7", "-d", "nochain,exec", program]
-        with subprocess.Popen(words, stdin=given, stdout=back, stderr=subprocess.PIPE, text=True, env=alone) as emulator:
-            for line in emulator.stderr:
-                pc = int(line.split("/", 2)[1], 16)
-                if begin <= pc < begin + size:
-                    inside = False
-                elif inside:
-                    counts[-1] += 1
-                elif pc in entries:
-                    inside = True
-                    counts.append(1)
-        if emulator.returncode or len(counts) != len(calls):
-            sys.exit(f"board: {program} ended with {emulator.returncode} after {len(counts)} of {len(calls)} calls")
-        back.seek(0)
-        return list(CALL.iter_unpack(back.read(len(calls) * CALL.size))), counts
+    """The calls as they come back, and for each the instructions that it takes."""
+    given = b"".join(CALL.pack(k, x, y, 9, 0.0) for k, x, y, _ in calls).ljust(ROOM * CALL.size, b"\0")
+    back, counts = emulated.run(program, given, [f"{side}_{name}" for name, *_ in FUNCTIONS for side in SIDES])
+    if len(counts) != len(calls):
+        sys.exit(f"board: {program} made {len(counts)} of {len(calls)} calls")
+    return list(CALL.iter_unpack(back[:len(calls) * CALL.size])), counts
 
 
 def judge(calls, answered):
@@ -90,7 +61,7 @@ def judge(calls, answered):
 
 def table(title, program):
     """Prints the lines of one program; the number of ratios above 1."""
-    if ".f64" in tool("objdump", "-d", program):
+    if ".f64" in emulated.tool("objdump", "-d", program):
         sys.exit(f"board: {program} has instructions of f64, which neither board has")
     calls = made_calls()
     answered, counts = run(program, calls)
