@@ -1,5 +1,5 @@
 /* One leg's step in whole numbers of 0.1 mm, for a leg board that has no floats. Made by
-   `tools/native-lib leg_board libleg_board.a TRIPLE ..`; it wants nothing but memcpy, if that. docs/API.md has the rule. */
+   `tools/native-lib leg_board libleg_board.a TRIPLE ..`; it wants nothing from outside. docs/API.md has the rule. */
 #ifndef HOPPER_LEG_BOARD_H
 #define HOPPER_LEG_BOARD_H
 

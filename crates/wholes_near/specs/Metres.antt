@@ -18,7 +18,7 @@ metres (negsuc n) = round binary32 true (suc n) 10000
 abbrev pub inMetres : WholePoint → Point
 inMetres p = record { x = metres (p .x); y = metres (p .y); z = metres (p .z) }
 
--- p / 2048, which every f32 holds
+-- p / 2048, which an f32 holds exactly
 unfoldable pub progressOf : ℕ → Float
 progressOf p = round binary32 false p 2048
 
