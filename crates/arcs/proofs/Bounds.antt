@@ -1,16 +1,18 @@
--- What callers may take for granted of every answer of `atan2`: the format holds it, and it is at most P either way. Assumes nothing.
+-- What callers may take for granted of every answer of `atan2` and of arc cosine: the format holds it, and it is at most P either way.
+-- Assumes nothing.
 use mathlib.Core.Bool.{Bool, true, false, _&&_}
 use Prim.Native.Nat.{ℕ, _*_, _^_, _≤_}
 use native.Mathlib.Nat.{le-of-eq, le-trans, add-zero, zero-add, mul-le-mul-right}
 use native.Mathlib.Omega.{arith}
 use lib.Dec.{T}
 use lib.Ieee.{Float, binary32, fits}
-use Rattle.numbers.specs.Door.{finite}
+use Rattle.numbers.specs.Door.{finite, permits}
+use Rattle.numbers.specs.Limits.{arcCosineArgument}
 use Rattle.numbers.specs.Told.{choose}
 use Rattle.units.specs.Units.{mag}
 use Rattle.units.proofs.Values.{plus-part, minus-part}
 use Rattle.units.proofs.Bounds.{Result}
-use Rattle.arcs.specs.How.{inRadians, finiteAtan2, atan2, angleOf}
+use Rattle.arcs.specs.How.{inRadians, finiteAtan2, atan2, angleOf, side, insideArcCosine, arcCosine}
 use Rattle.arcs.specs.Wedges.{signBit}
 use Rattle.arcs.proofs.Results.{radians-value, radians-fits}
 use Rattle.arcs.proofs.Atan2Band.{few, any-le}
@@ -44,10 +46,19 @@ at-most s A h = record { held = radians-fits s A (few h); units = by-sign s }
       most = le-trans (le-of-eq (zero-add (A * 2 ^ 127))) most;
     }
 
+-- of any two numbers, and +0 where they are turned away
+any-bounds : (y x : Float) → AtMostP (finiteAtan2 y x)
+unfolding finiteAtan2
+any-bounds y x = at-most (signBit y) (angleOf (signBit x) (mag x) (mag y)) (any-le (signBit x) (mag x) (mag y))
+
+or-nought : (b : Bool) (r : Float) → AtMostP r → AtMostP (choose b r (inRadians false 0))
+or-nought true r h = h
+or-nought false r h = at-most false 0 (omega arith)
+
 pub atan2-bounds : (y x : Float) → AtMostP (atan2 y x)
-unfolding atan2 finiteAtan2
-atan2-bounds y x = go (finite y && finite x)
-  where
-    go : (b : Bool) → AtMostP (choose b (finiteAtan2 y x) (inRadians false 0))
-    go true = at-most (signBit y) (angleOf (signBit x) (mag x) (mag y)) (any-le (signBit x) (mag x) (mag y))
-    go false = at-most false 0 (omega arith)
+unfolding atan2
+atan2-bounds y x = or-nought (finite y && finite x) (finiteAtan2 y x) (any-bounds y x)
+
+pub arc-cosine-bounds : (q : Float) → AtMostP (arcCosine q)
+unfolding arcCosine insideArcCosine
+arc-cosine-bounds q = or-nought (permits arcCosineArgument q) (insideArcCosine q) (any-bounds (side q) q)

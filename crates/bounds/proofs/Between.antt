@@ -51,6 +51,10 @@ wider {n} {p} {m} {q} {x} b l u =
       high = le-trans (b .high) (mul-le-mul-right unity u);
     }
 
+-- it is a number
+pub between-finite : {n p : ℕ} {x : Float} → Between n p x → T (finite x)
+between-finite {n} {p} {x} b = subst T (sym (finite-is x)) (part-finite binary32 x (hi x) (lo x) (b .ok))
+
 -- ---- rounding keeps a whole bound, and whole numbers of 24 digits do not overflow
 small : (k : ℕ) → k < 2 ^ 24 → k * unity < overflow binary32
 small k h = lt-of-lt-of-le (mul-lt-mul-of-pos-right h unity-pos) (lit≤ tt)
@@ -247,7 +251,6 @@ module _ {a : ℕ} {x : Float} (h : Between 0 a x) (b : ℕ) (z : Float) (Z : T 
     (enough : a ≤ b * b) where
   pub root-between : Between 0 b (squareRoot x)
   root-between =
-      let t : T (finite x) = subst T (sym (finite-is x)) (part-finite binary32 x (hi x) (lo x) (h .ok)) in
       let l : lo x ≡ 0 = nothing (lo x) unity (h .low) in
       let m : mag x ≤ a * unity = le-trans (le-of-eq (mag-parts x)) (alone (hi x) (lo x) (a * unity) l (h .high)) in
       let s : mag x * unity ≤ b * unity * (b * unity) =
@@ -256,7 +259,7 @@ module _ {a : ℕ} {x : Float} (h : Between 0 a x) (b : ℕ) (z : Float) (Z : T 
       let r : mag (squareRoot x) ≤ mag z = root-most x z (h .held) l Z (subst (λ (w : ℕ). mag x * unity ≤ w * w) (sym is) s) in
       record {
         held = root-fits x (h .held);
-        ok = root-units x (h .held) t;
+        ok = root-units x (h .held) (between-finite h);
         low = le-trans (le-of-eq (root-lo x (h .held) l)) zero-le;
         high =
             le-trans (part (hi (squareRoot x)) (lo (squareRoot x)) (mag (squareRoot x)) (mag-parts (squareRoot x)))

@@ -17,6 +17,9 @@ use Rattle.bounds.proofs.Between.{wider, through-the-door, in-the-table
 pub at-foot : (x : Float) → T (fits binary32 x) → T (permits rows.footLimit x) → Between 4 4 x
 at-foot = through-the-door rows.footLimit 0 (4 * unity) (4 * unity) table.foot-ends 4 4 (lit≤ tt) (lit≤ tt)
 
+pub at-direction : (x : Float) → T (fits binary32 x) → T (permits rows.direction x) → Between 1 1 x
+at-direction = through-the-door rows.direction 0 unity unity table.direction-ends 1 1 (lit≤ tt) (lit≤ tt)
+
 pub at-rotation : (x : Float) → T (fits binary32 x) → T (permits rows.rotation x) → Between 4 4 x
 at-rotation = through-the-door rows.rotation 0 (4 * unity) (4 * unity) table.rotation-ends 4 4 (lit≤ tt) (lit≤ tt)
 

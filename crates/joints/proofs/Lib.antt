@@ -1,4 +1,4 @@
-mod OnePass
+pub mod OnePass
 mod LegsTold
 pub mod FirstLeg
 pub mod TwoTests
@@ -7,6 +7,8 @@ pub mod Reach
 pub mod Within
 pub mod OneAnswer
 pub mod Laws
+pub mod Told
+pub mod Finite
 pub mod Strict
 mod Examples
 mod ReachExamples

@@ -1,5 +1,5 @@
 -- `told` loses nothing of an answer on joints, so no second answer fits a contract stated by it, and no case is told like another.
-use mathlib.Core.Path.{_≡_, ap, ap₂, _∙_}
+use mathlib.Core.Path.{_≡_, refl, sym, ap, ap₂, _∙_}
 use mathlib.Core.Bool.{Bool, true, false}
 use mathlib.Core.List.{List, [], _∷_}
 use native.Mathlib.Omega.{arith}
@@ -18,7 +18,7 @@ use Rattle.joints.specs.declared.core.LegsSolved.{LegsSolved}
 use Rattle.joints.specs.declared.core.LegsSolved.the-variants.{Joints as AllAngles, Refused as OneRefused}
 
 -- eighteen angles are settled by their floats
-joints-of : List Float → Joints
+pub joints-of : List Float → Joints
 joints-of xs =
     record {
       «left_front» = record { coxa = getD xs 0 nan; femur = getD xs 1 nan; tibia = getD xs 2 nan };
@@ -29,9 +29,12 @@ joints-of xs =
       «right_rear» = record { coxa = getD xs 15 nan; femur = getD xs 16 nan; tibia = getD xs 17 nan };
     }
 
-pub joints-from-values : (i j : Joints) → values jointsOf (row (angles i)) ≡ values jointsOf (row (angles j)) → i ≡ j
+pub joints-back : (j : Joints) → joints-of (values jointsOf (row (angles j))) ≡ j
 unfolding joints-of
-joints-from-values i j e = ap joints-of e
+joints-back j = refl
+
+pub joints-from-values : (i j : Joints) → values jointsOf (row (angles i)) ≡ values jointsOf (row (angles j)) → i ≡ j
+joints-from-values i j e = sym (joints-back i) ∙ ap joints-of e ∙ joints-back j
 
 pub floats : {t u : Told} → t ≡ u → t .values ≡ u .values
 floats e = ap (λ (t : Told). t .values) e

@@ -43,7 +43,7 @@ angles-finite a =
     (both (in-row rows.motorAngle (refl, refl) (a .coxa)) (in-row rows.motorAngle (refl, refl) (a .femur)))
     (in-row rows.motorAngle (refl, refl) (a .tibia))
 
-configuration-finite : (c : Configuration) → permittedConfiguration c ≡ true → finiteConfiguration c ≡ true
+pub configuration-finite : (c : Configuration) → permittedConfiguration c ≡ true → finiteConfiguration c ≡ true
 unfolding permittedConfiguration finiteConfiguration
 configuration-finite c =
     both

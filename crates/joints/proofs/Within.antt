@@ -62,16 +62,16 @@ ninety-between : Between 0 2 ninety
 unfolding ninety ofBits fits hi lo
 ninety-between = record { held = tt; ok = (refl, refl); low = lit≤ tt; high = lit≤ tt }
 
-oneFifty-between : Between 0 3 oneFifty
+pub oneFifty-between : Between 0 3 oneFifty
 unfolding oneFifty ofBits fits hi lo
 oneFifty-between = record { held = tt; ok = (refl, refl); low = lit≤ tt; high = lit≤ tt }
 
 -- ---- the same of records
-record LegBounds (l : LegConfiguration) : Type 0 where
-  position : PointBounds 4 (l .position)
-  angle : Between 4 4 (l .«angle_offset»)
-  femur : Between 6 6 (l .«femur_correction»)
-  tibia : Between 6 6 (l .«tibia_correction»)
+pub record LegBounds (l : LegConfiguration) : Type 0 where
+  pub position : PointBounds 4 (l .position)
+  pub angle : Between 4 4 (l .«angle_offset»)
+  pub femur : Between 6 6 (l .«femur_correction»)
+  pub tibia : Between 6 6 (l .«tibia_correction»)
 
 leg-bounds : (l : LegConfiguration) → HeldLeg l → T (permittedLeg l) → LegBounds l
 unfolding permittedLeg
@@ -89,12 +89,12 @@ leg-bounds l H h =
       tibia = at-correction (l .«tibia_correction») (H .tibia) (and-r (p && a && f) t h);
     }
 
-record BodyBounds (b : Body) : Type 0 where
-  coxa : Between 0 1 (b .«coxa_length»)
-  femur-length : Between 0 1 (b .«femur_length»)
-  tibia-length : Between 0 1 (b .«tibia_length»)
-  femur : Between 2 2 (b .«femur_offset»)
-  tibia : Between 2 2 (b .«tibia_offset»)
+pub record BodyBounds (b : Body) : Type 0 where
+  pub coxa : Between 0 1 (b .«coxa_length»)
+  pub femur-length : Between 0 1 (b .«femur_length»)
+  pub tibia-length : Between 0 1 (b .«tibia_length»)
+  pub femur : Between 2 2 (b .«femur_offset»)
+  pub tibia : Between 2 2 (b .«tibia_offset»)
 
 body-bounds : (b : Body) → HeldBody b → T (permittedBody b) → BodyBounds b
 unfolding permittedBody
@@ -279,13 +279,13 @@ fk-arguments m b l M B L =
 
 -- ---- from the door: no refusal says that all is permitted, of each leg too
 module _ (c : Configuration) (C : HeldConfiguration c) (h : T (permittedConfiguration c)) where
-  legs-bounds : (l : Leg) → LegBounds (leg c l)
+  pub legs-bounds : (l : Leg) → LegBounds (leg c l)
   unfolding permittedConfiguration
   legs-bounds l =
       let p : Leg → Bool = λ k. permittedLeg (leg c k) in
       leg-bounds (leg c l) (C .legs l) (each-of-every p (and-l (every p) (permittedBody (c .body)) h) l)
 
-  shared-bounds : BodyBounds (c .body)
+  pub shared-bounds : BodyBounds (c .body)
   unfolding permittedConfiguration
   shared-bounds = body-bounds (c .body) (C .body) (and-r (every (λ l. permittedLeg (leg c l))) (permittedBody (c .body)) h)
 

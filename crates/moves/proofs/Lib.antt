@@ -6,5 +6,6 @@ pub mod Steps
 pub mod OneMove
 pub mod Examples
 pub mod FootByFoot
+pub mod Same
 pub mod Marks
 pub mod OneAnswer

@@ -1,7 +1,7 @@
 -- A planned foot keeps its start's mark, also one that is planned from its relaxed place, and no mark has a part in where it is planned to
 -- be. Assumes nothing.
 use mathlib.Core.Path.{_≡_, refl}
-use Rattle.legs.specs.Legs.{Leg, points, lifted}
+use Rattle.legs.specs.Legs.{Leg, points, lifted, marked}
 use Rattle.legs.proofs.Laws.{lifted-of-marked}
 use Rattle.legs.specs.declared.Feet.{Feet}
 use Rattle.commands.specs.declared.Tripod.{Tripod}
@@ -17,3 +17,7 @@ module _ (start relaxed : Feet) (tripod : Tripod) (c : MoveCommand) where
   pub points-of-plan : points (plannedFeet start relaxed tripod c) ≡ planned (points start) (points relaxed) tripod c
   unfolding plannedFeet
   points-of-plan = refl
+
+  pub plan-is : plannedFeet start relaxed tripod c ≡ marked (lifted start) (planned (points start) (points relaxed) tripod c)
+  unfolding plannedFeet
+  plan-is = refl

@@ -52,7 +52,7 @@ pub record PlanArguments (start relaxed : Points) (lifted : Tripod) (c : MoveCom
   pub third : TurnArguments (between (centerPoint (summed lifted start)) ((inRow lifted start) .third)) ((inRow lifted relaxed) .third)
 
 -- ---- the constants
-nought-between : Between 4 4 nought
+pub nought-between : Between 4 4 nought
 unfolding nought over fits hi lo
 nought-between = record { held = tt; ok = (refl, refl); low = lit≤ tt; high = lit≤ tt }
 
@@ -69,17 +69,17 @@ mean-between : {a b c : Float} → Between 4 4 a → Between 4 4 b → Between 4
 mean-between a b c =
     share-between 4 3 three (sum-between (sum-between a b (lit< tt) (lit< tt)) c (lit< tt) (lit< tt)) three-value (lit< tt) (lit< tt)
 
-record TrioBounds (t : Trio) : Type 0 where
-  first : PointBounds 4 (t .first)
-  second : PointBounds 4 (t .second)
-  third : PointBounds 4 (t .third)
+pub record TrioBounds (t : Trio) : Type 0 where
+  pub first : PointBounds 4 (t .first)
+  pub second : PointBounds 4 (t .second)
+  pub third : PointBounds 4 (t .third)
 
 -- in x and y alone
-record Level (n : ℕ) (p : Point) : Type 0 where
-  x : Between n n (p .x)
-  y : Between n n (p .y)
+pub record Level (n : ℕ) (p : Point) : Type 0 where
+  pub x : Between n n (p .x)
+  pub y : Between n n (p .y)
 
-centre-level : (t : Trio) → TrioBounds t → Level 4 (centerPoint t)
+pub centre-level : (t : Trio) → TrioBounds t → Level 4 (centerPoint t)
 unfolding centerPoint
 centre-level t b =
     record {
@@ -108,10 +108,10 @@ turn-arguments a b p q =
     }
 
 -- ---- from the door: no refusal says that all is permitted
-feet-bounds : (f : Feet) → HeldFeet f → T (permittedFeet rows.footLimit f) → (l : Leg) → PointBounds 4 (foot f l)
+pub feet-bounds : (f : Feet) → HeldFeet f → T (permittedFeet rows.footLimit f) → (l : Leg) → PointBounds 4 (foot f l)
 feet-bounds f H h l = point-bounds (foot f l) (H l) (each-of-every (λ k. permittedPoint rows.footLimit (foot f k)) h l)
 
-summed-bounds : (p : Points) → ((l : Leg) → PointBounds 4 (point p l)) → (lifted : Tripod) → TrioBounds (summed lifted p)
+pub summed-bounds : (p : Points) → ((l : Leg) → PointBounds 4 (point p l)) → (lifted : Tripod) → TrioBounds (summed lifted p)
 summed-bounds p b LRL = record { first = b leftMiddle; second = b rightFront; third = b rightRear }
 summed-bounds p b RLR = record { first = b leftFront; second = b leftRear; third = b rightMiddle }
 

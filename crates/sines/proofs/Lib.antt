@@ -7,5 +7,6 @@ mod Turn
 mod Whole
 pub mod Unrounded
 pub mod Sharp
+pub mod Fits
 pub mod Bands
 pub mod Examples

@@ -2,7 +2,7 @@ mod Bits
 mod Legs
 mod OnePass
 mod Uncapped
-mod Paces
+pub mod Paces
 pub mod Times
 pub mod Within
 pub mod Distances
@@ -13,4 +13,7 @@ pub mod Marks
 pub mod Examples
 pub mod MarkExamples
 pub mod Straight
+pub mod Done
 pub mod OneAnswer
+pub mod Told
+pub mod Held

@@ -151,11 +151,11 @@ made-by-time s elapsed =
     ∙ made-in-time (s .start) (s .last) (s .target) (s .lift) elapsed (s .period) toldNextTimed (timedAt s) timedProgress
 
 -- ---- by distance: its descent is 0, which is permitted
-nought-permitted : permits direction nought ≡ true
+pub nought-permitted : permits direction nought ≡ true
 unfolding direction nought over minus le
 nought-permitted = refl
 
-nought-finite : finite nought ≡ true
+pub nought-finite : finite nought ≡ true
 unfolding finite nought over
 nought-finite = refl
 

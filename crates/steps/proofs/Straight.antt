@@ -101,7 +101,7 @@ module _ (s s' : EvenStepIterator) (elapsed : Time) (f : Feet) (e : nextEven s e
   abbrev progress : Float
   progress = evenProgress elapsed (s .period)
 
-  its-step : foot f l ≡ pointOf (legStep (points (s .start)) (points (s .last)) (points (s .target)) (s .lift) progress l)
+  pub its-step : foot f l ≡ pointOf (legStep (points (s .start)) (points (s .last)) (points (s .target)) (s .lift) progress l)
   unfolding stepped
   its-step =
       ap (λ (g : Feet). foot g l) (even-step-taken s s' elapsed f e .0)

@@ -1,8 +1,10 @@
--- Times as f32: never below zero, never a NaN; and a permitted period is a number above zero, so that it can divide.
+-- Times as f32: never below zero, never a NaN; of two that are at most 3600 s the later is no less; and a permitted period is a number
+-- above zero, so that it can divide.
 use mathlib.Core.Path.{_≡_, refl, sym, ap, _∙_, subst}
+use mathlib.Core.Logic.{_⊎_, inl, inr}
 use mathlib.Core.Bool.{Bool, true, false, cond, _&&_, true≢false}
 use Prim.Native.Nat.{ℕ, zero, suc, _+_, _*_, _^_, _≤_, _<_}
-use native.Mathlib.Nat.{le-trans, le-of-eq, lt-of-le-of-lt, lt-of-lt-of-le, lt-irrefl}
+use native.Mathlib.Nat.{le-trans, le-of-eq, eq-or-lt-of-le, lt-of-le-of-lt, lt-of-lt-of-le, lt-irrefl}
 use native.Mathlib.Nat.{mul-le-mul-right, mul-right-comm, mul-one, one-mul, mul-pos, zero-mul}
 use native.Mathlib.Omega.{arith}
 use borrow.Author.Tests.{ltb-true, leb-true, eqb-true}
@@ -13,13 +15,14 @@ use lib.Ieee.Back.{round-whole}
 use lib.Ieee.Fits.{round-is, down-pos}
 use lib.Ieee.Scale.{grid, overflow}
 use Rattle.units.specs.Units.{unity, Part}
+use Rattle.units.proofs.Whole.{le-or-lt}
 use Rattle.units.proofs.Grid.{grid-mono, grid-zero}
 use Rattle.units.proofs.Values.{round-value, plus-part, signed, Signed, plus, minus}
 use Rattle.units.proofs.Add.{add-value}
 use Rattle.units.proofs.Multiply.{div-part}
 use Rattle.units.proofs.Held.{grid-exact}
 use Rattle.units.proofs.Errors.{unity-pos}
-use Rattle.commands.specs.Times.{periodPermitted, wholeNumber, inSeconds, inNanoseconds}
+use Rattle.commands.specs.Times.{elapsedPermitted, periodPermitted, wholeNumber, inSeconds, inNanoseconds}
 use Rattle.numbers.proofs.OnePass.{and-left, and-right}
 use Rattle.commands.specs.declared.Time.{Time}
 
@@ -123,8 +126,8 @@ seconds-from-zero t =
     (whole-from-zero (t .seconds))
     (div-from-zero (wholeNumber (t .nanoseconds)) (wholeNumber 1000000000) (whole-from-zero (t .nanoseconds)) billion-above)
 
--- ---- a permitted period
--- a whole number of seconds or nanoseconds, in units
+-- ---- seconds and nanoseconds, in units
+-- a whole number of them
 seconds-value : (n : ℕ) → n ≤ 2 ^ 24 → HasValue (wholeNumber n) false (n * unity) unity
 unfolding wholeNumber
 seconds-value n h = in-units (round binary32 false n 1) (round-whole binary32 false n h)
@@ -184,6 +187,87 @@ part-value n h =
     (lt-of-le-of-lt (at-most-a-second n h) (lit< tt))
     (subst (λ (w : ℕ). w < overflow binary32) (sym (grid-zero binary32 (1000000000 * unity) (lit< tt))) (lit< tt)))
 
+-- ---- a time of at most 3600 s: its two parts in units, and their sum as an f32
+abbrev pub whole : Time → ℕ
+whole t = t .seconds * unity + part-of-a-second (t .nanoseconds)
+
+abbrev pub timeUnits : Time → ℕ
+timeUnits t = grid binary32 (whole t) unity
+
+module _ (t : Time) (few : t .seconds ≤ 3600) (below : t .nanoseconds < 1000000000) where
+  whole-most : whole t ≤ 3601 * unity
+  whole-most = sum (t .seconds) (part-of-a-second (t .nanoseconds)) unity few (at-most-a-second (t .nanoseconds) below)
+    where
+      sum : (s b u : ℕ) → s ≤ 3600 → b ≤ u → s * u + b ≤ 3601 * u
+      sum s b u h k = let m : s * u ≤ 3600 * u = mul-le-mul-right u h in omega arith
+
+  pub time-most : timeUnits t ≤ 3601 * unity
+  time-most =
+      le-trans
+      (grid-mono binary32 (whole t) unity (3601 * unity) unity unity-pos unity-pos (mul-le-mul-right unity whole-most))
+      (le-of-eq (grid-exact binary32 3601 149 (lit< tt) (lit< tt)))
+
+  pub time-value : HasValue (inSeconds t) false (timeUnits t) unity
+  unfolding inSeconds
+  time-value =
+      add-value binary32
+      (wholeNumber (t .seconds))
+      (div binary32 (wholeNumber (t .nanoseconds)) (wholeNumber 1000000000))
+      (t .seconds * unity)
+      (part-of-a-second (t .nanoseconds))
+      (seconds-value (t .seconds) (le-trans few (lit≤ tt)))
+      (part-value (t .nanoseconds) below)
+      (lt-of-le-of-lt time-most (lit< tt))
+
+-- ---- the later of two is no less
+part-mono : (n m : ℕ) → n ≤ m → part-of-a-second n ≤ part-of-a-second m
+part-mono n m h =
+    grid-mono binary32 (units-of-nanoseconds n) (1000000000 * unity) (units-of-nanoseconds m) (1000000000 * unity) (lit< tt) (lit< tt)
+    (mul-le-mul-right (1000000000 * unity) (grid-mono binary32 n 1 m 1 (lit< tt) (lit< tt) (mul-le-mul-right 1 h)))
+
+module _ (t r : Time) (below : t .nanoseconds < 1000000000) (less : r .nanoseconds < 1000000000)
+    (h : inNanoseconds t ≤ inNanoseconds r) where
+  whole-mono : whole t ≤ whole r
+  whole-mono = by-seconds (le-or-lt (r .seconds) (t .seconds))
+    where
+      in-that-second : (s z n m : ℕ) → s ≡ z → z * 1000000000 + n ≤ s * 1000000000 + m → n ≤ m
+      in-that-second s z n m e h = omega (arith, h, e)
+
+      no-earlier : (s z n m : ℕ) → s < z → m < 1000000000 → z * 1000000000 + n ≤ s * 1000000000 + m → ⊥
+      no-earlier s z n m g k h = omega (arith, h, k, g)
+
+      later : (s z b c u : ℕ) → z < s → b ≤ u → z * u + b ≤ s * u + c
+      later s z b c u g k = let m : (1 + z) * u ≤ s * u = mul-le-mul-right u (omega (arith, g)) in omega (arith, m, k)
+
+      level : (s z b c u : ℕ) → s ≡ z → b ≤ c → z * u + b ≤ s * u + c
+      level s z b c u e k = omega (arith, k, ap (λ (w : ℕ). w * u) e)
+
+      by-order : (r .seconds ≡ t .seconds) ⊎ (r .seconds < t .seconds) → whole t ≤ whole r
+      by-order (inl e) =
+          level (r .seconds) (t .seconds) _ _ unity e
+          (part-mono (t .nanoseconds) (r .nanoseconds)
+          (in-that-second (r .seconds) (t .seconds) (t .nanoseconds) (r .nanoseconds) e h))
+      by-order (inr g) = absurd (no-earlier (r .seconds) (t .seconds) (t .nanoseconds) (r .nanoseconds) g less h)
+
+      by-seconds : (r .seconds ≤ t .seconds) ⊎ (t .seconds < r .seconds) → whole t ≤ whole r
+      by-seconds (inl l) = by-order (eq-or-lt-of-le l)
+      by-seconds (inr g) =
+          later (r .seconds) (t .seconds) _ _ unity g (at-most-a-second (t .nanoseconds) below)
+
+  pub time-mono : timeUnits t ≤ timeUnits r
+  time-mono = grid-mono binary32 (whole t) unity (whole r) unity unity-pos unity-pos (mul-le-mul-right unity whole-mono)
+
+-- ---- a permitted elapsed time
+module _ (t : Time) (h : elapsedPermitted t ≡ true) where
+  pub elapsed-few : t .seconds ≤ 3600
+  unfolding elapsedPermitted
+  elapsed-few = leb-true _ _ (and-left (leb (t .seconds) 3600) (ltb (t .nanoseconds) 1000000000) h)
+
+  pub elapsed-below : t .nanoseconds < 1000000000
+  unfolding elapsedPermitted
+  elapsed-below = ltb-true _ _ (and-right (leb (t .seconds) 3600) (ltb (t .nanoseconds) 1000000000) h)
+
+-- ---- a permitted period
 module _ (t : Time) (h : periodPermitted t ≡ true) where
   record Parts : Type 0 where
     below : t .nanoseconds < 1000000000
@@ -203,8 +287,8 @@ module _ (t : Time) (h : periodPermitted t ≡ true) where
         most = leb-true _ _ (and-right (below && least) most h);
       }
 
-  abbrev whole : ℕ
-  whole = t .seconds * unity + part-of-a-second (t .nanoseconds)
+  pub period-below : t .nanoseconds < 1000000000
+  period-below = parts .below
 
   seconds-few : t .seconds ≤ 60
   seconds-few = let p = parts in few (t .seconds) (t .nanoseconds) (p .most)
@@ -212,13 +296,10 @@ module _ (t : Time) (h : periodPermitted t ≡ true) where
       few : (s n : ℕ) → s * 1000000000 + n ≤ 60000000000 → s ≤ 60
       few s n h = omega arith
 
-  whole-most : whole ≤ 61 * unity
-  whole-most = sum (t .seconds) (part-of-a-second (t .nanoseconds)) unity seconds-few (at-most-a-second (t .nanoseconds) (parts .below))
-    where
-      sum : (s b u : ℕ) → s ≤ 60 → b ≤ u → s * u + b ≤ 61 * u
-      sum s b u h k = let m : s * u ≤ 60 * u = mul-le-mul-right u h in omega arith
+  pub period-few : t .seconds ≤ 3600
+  period-few = le-trans seconds-few (lit≤ tt)
 
-  whole-least : 2 ^ 139 ≤ whole
+  whole-least : 2 ^ 139 ≤ whole t
   whole-least = by-seconds (t .seconds) refl
     where
       more : (b c d : ℕ) → b ≤ c → b ≤ c + d
@@ -241,27 +322,16 @@ module _ (t : Time) (h : periodPermitted t ≡ true) where
           one-more : (s : ℕ) → 1 ≤ suc s
           one-more s = omega arith
 
+  pub period-least : 2 ^ 139 ≤ timeUnits t
+  period-least =
+      le-trans
+      (le-of-eq (sym (grid-exact binary32 1 139 (lit< tt) (lit< tt))))
+      (grid-mono binary32 (2 ^ 139) unity (whole t) unity unity-pos unity-pos (mul-le-mul-right unity whole-least))
+
   pub period-above : Above (inSeconds t)
-  unfolding inSeconds
   period-above =
       record {
-        q = grid binary32 whole unity;
-        value =
-            add-value binary32
-            (wholeNumber (t .seconds))
-            (div binary32 (wholeNumber (t .nanoseconds)) (wholeNumber 1000000000))
-            (t .seconds * unity)
-            (part-of-a-second (t .nanoseconds))
-            (seconds-value (t .seconds) (le-trans seconds-few (lit≤ tt)))
-            (part-value (t .nanoseconds) (parts .below))
-            (lt-of-le-of-lt
-            (le-trans
-            (grid-mono binary32 whole unity (61 * unity) unity unity-pos unity-pos (mul-le-mul-right unity whole-most))
-            (le-of-eq (grid-exact binary32 61 149 (lit< tt) (lit< tt))))
-            (lit< tt));
-        more =
-            lt-of-lt-of-le (lit< tt)
-            (le-trans
-            (le-of-eq (sym (grid-exact binary32 1 139 (lit< tt) (lit< tt))))
-            (grid-mono binary32 (2 ^ 139) unity whole unity unity-pos unity-pos (mul-le-mul-right unity whole-least)));
+        q = timeUnits t;
+        value = time-value t period-few period-below;
+        more = lt-of-lt-of-le (lit< tt) period-least;
       }

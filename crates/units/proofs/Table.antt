@@ -13,6 +13,10 @@ pub walk-foot-ends : Ends rows.walkFoot 0 (3 * unity) (3 * unity) 0
 unfolding rows.walkFoot
 walk-foot-ends = record { from = (refl, refl); to = (refl, refl) }
 
+pub direction-ends : Ends rows.direction 0 unity unity 0
+unfolding rows.direction
+direction-ends = record { from = (refl, refl); to = (refl, refl) }
+
 pub rotation-ends : Ends rows.rotation 0 (4 * unity) (4 * unity) 0
 unfolding rows.rotation
 rotation-ends = record { from = (refl, refl); to = (refl, refl) }

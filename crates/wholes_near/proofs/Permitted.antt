@@ -1,7 +1,7 @@
 -- None of the f32 step's floats is outside document 01's table: a point's coordinates are within 4 m, a height within 1 m, and a progress
 -- is a number. So the f32 step refuses none of them. Assumes nothing.
 use Prim.Native.Nat.{ℕ, suc, _+_, _*_, _^_, _≤_, _<_, zero-le}
-use mathlib.Core.Path.{_≡_, refl, sym, subst}
+use mathlib.Core.Path.{_≡_, subst}
 use mathlib.Core.Bool.{true, false, _&&_}
 use native.Mathlib.Nat.{le-trans, le-of-eq, lt-of-le-of-lt, mul-le-mul-right}
 use native.Mathlib.Omega.{arith}
@@ -16,8 +16,8 @@ use Rattle.units.proofs.Grid.{grid-mono}
 use Rattle.units.proofs.Held.{grid-exact}
 use Rattle.units.proofs.Values.{round-value, plus-part, minus-part}
 use Rattle.units.proofs.Errors.{unity-pos}
-use Rattle.units.proofs.Door.{Ends, permits-part, finite-of}
-use Rattle.units.proofs.Table.{foot-ends}
+use Rattle.units.proofs.Door.{permits-part, finite-of}
+use Rattle.units.proofs.Table.{foot-ends, direction-ends}
 use Rattle.legs.specs.Legs.{permittedPoint}
 use Rattle.legs.specs.declared.Point.{Point}
 use Rattle.wholes.specs.Wholes.{isCoordinate, isPlace}
@@ -65,10 +65,6 @@ point-permitted p h =
     let z = permits footLimit (metres (p .z)) in
     and-i (x && y) z (and-i x y (length-permitted (p .x) (x-good p h)) (length-permitted (p .y) (y-good p h)))
     (length-permitted (p .z) (z-good p h))
-
-direction-ends : Ends direction 0 unity unity 0
-unfolding direction
-direction-ends = record { from = (refl, refl); to = (refl, refl) }
 
 pub height-permitted : (h : ℕ) → h ≤ 1000 → T (permits direction (metres (pos h)))
 unfolding metres

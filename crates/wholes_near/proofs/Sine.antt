@@ -1,14 +1,13 @@
 -- The f32 step's sine in parts: within 129 / 128 of the table's unit of the entry that the progress uses. Assumes nothing.
 use Prim.Native.Nat.{ℕ, _+_, _*_, _^_, _≤_, _<_, zero-le}
 use mathlib.Core.Path.{_≡_, refl}
-use mathlib.Core.Bool.{Bool, true, false, cond}
+use mathlib.Core.Bool.{false}
 use mathlib.Core.Logic.{_⊎_, inl, inr}
 use native.Mathlib.Nat.{le-of-lt, mul-pos, mul-le-mul-left, mul-le-mul-right, le-of-mul-le-mul-left}
 use native.Mathlib.Omega.{arith}
-use lib.Dec.{T, ltb, lit<, lit≤}
-use lib.IntN.{pos}
-use lib.Ieee.{Float, fin, binary32, fits, mul, neg, toBits}
-use lib.Ieee.Fits.{mul-fits, neg-fits, round-fits}
+use lib.Dec.{T, lit<, lit≤}
+use lib.Ieee.{Float, binary32, fits}
+use lib.Ieee.Fits.{mul-fits, round-fits}
 use Rattle.numbers.specs.Door.{permits}
 use Rattle.numbers.specs.Limits as rows
 use Rattle.units.specs.Units.{unity, Part, hi, lo}
@@ -23,10 +22,10 @@ use Rattle.series.specs.Series.{S}
 use Rattle.series.proofs.Fractions.{same-sym, within-same}
 use Rattle.series.proofs.Parity.{S-over}
 use Rattle.series.proofs.Values.{value-over}
-use Rattle.units.specs.Patterns.{signSet, bare}
-use Rattle.sines.specs.How.{tinyBits, fixed, fixedSine, counted, centred, insideSine, sine}
+use Rattle.sines.specs.How.{sine}
 use Rattle.sines.specs.Bands.{band, SineOf}
 use Rattle.sines.proofs.Bands.{sine-band}
+use Rattle.sines.proofs.Fits.{sine-fits}
 use Rattle.steps.specs.Leg.{halfTurn}
 use Rattle.steps.proofs.Within.{half-turn-between}
 use Rattle.wholes.specs.Wholes.{tableScale, used, entry}
@@ -36,29 +35,6 @@ use Rattle.wholes_near.proofs.Apart.{Apart}
 use Rattle.wholes_near.proofs.Rounding.{small, progress-value}
 use Rattle.wholes_near.proofs.Near.{fraction, part-value}
 use Rattle.wholes_near.proofs.Wave.{argument, wave}
-
--- ---- a sine is an f32
-either-fits : (b : Bool) (x y : Float) → T (fits binary32 x) → T (fits binary32 y) → T (fits binary32 (cond b x y))
-either-fits true x y F G = F
-either-fits false x y F G = G
-
-zero-fits : T (fits binary32 (fin false 0 (pos 0)))
-unfolding fits
-zero-fits = tt
-
-count-fits : (w : ℕ) → T (fits binary32 (centred w))
-unfolding counted
-count-fits w = mul-fits binary32 _ _
-
-sine-fits : (x : Float) → T (fits binary32 x) → T (fits binary32 (sine x))
-unfolding sine insideSine
-sine-fits x F =
-    let b = toBits binary32 x in
-    let y = centred (fixedSine (fixed (bare b))) in
-    either-fits (permits rows.sineArgument x) (insideSine x) (fin false 0 (pos 0))
-    (either-fits (ltb (bare b) tinyBits) x (cond (signSet b) (neg y) y) F
-    (either-fits (signSet b) (neg y) y (neg-fits binary32 y (count-fits (fixedSine (fixed (bare b)))))
-    (count-fits (fixedSine (fixed (bare b)))))) zero-fits
 
 -- ---- the argument is in document 01's row
 module _ (p : ℕ) (h : p ≤ 2048) where
