@@ -21,8 +21,8 @@ use Rattle.legs.specs.Answers.{lifts}
 use Rattle.legs.specs.Legs.{row, foot, lifted, marked, sixPoints, finitePoint, finiteFeet}
 use Rattle.legs.specs.declared.Point.{Point}
 use Rattle.legs.specs.declared.Feet.{Feet}
-use Rattle.packed.specs.Packed.{pair, word, pairAt, wordAt, floatAt, pointAt, footAt, feetAt}
-use Rattle.packed.specs.Packed.{pairBytes, wordBytes, floatBytes, pointBytes, feetBytes}
+use Rattle.packed.specs.Packed.{pair, word, pairAt, wordAt, longAt, floatAt, pointAt, footAt, feetAt, feetIn}
+use Rattle.packed.specs.Packed.{pairBytes, wordBytes, longBytes, floatBytes, pointBytes, feetBytes}
 use Rattle.packed.proofs.Storing.{no-nan, finite-each, finite-foot}
 
 -- ---- reading further on: behind n bytes as from n on
@@ -42,6 +42,10 @@ pair-behind n l at = ap₂ pair (getD-drop n l at 0) (byte-behind 1 n l at)
 pub word-behind : (n : ℕ) (l : List ℕ) (at : ℕ) → wordAt (drop n l) at ≡ wordAt l (n + at)
 unfolding wordAt
 word-behind n l at = rw (getD-drop n l at 0, byte-behind 1 n l at, byte-behind 2 n l at, byte-behind 3 n l at) refl
+
+pub long-behind : (n : ℕ) (l : List ℕ) (at : ℕ) → longAt (drop n l) at ≡ longAt l (n + at)
+unfolding longAt
+long-behind n l at = rw (word-behind n l at, further wordAt word-behind 4 n l at) refl
 
 pub float-behind : (n : ℕ) (l : List ℕ) (at : ℕ) → floatAt (drop n l) at ≡ floatAt l (n + at)
 unfolding floatAt
@@ -96,6 +100,19 @@ pair-back n rest h = pair-split n h
 pub word-back : (n : ℕ) (rest : List ℕ) → n < 4294967296 → wordAt (wordBytes n ++ rest) 0 ≡ n
 unfolding wordAt
 word-back n rest h = word-split n h
+
+-- eight bytes are two numbers of four
+halves : (n : ℕ) → n % 4294967296 + n / 4294967296 * 4294967296 ≡ n
+halves n = omega arith
+
+pub long-back : (n : ℕ) (rest : List ℕ) → n < 18446744073709551616 → longAt (longBytes n ++ rest) 0 ≡ n
+unfolding wordAt longAt
+long-back n rest h =
+    let high : n / 4294967296 < 4294967296 = omega arith in
+    ap₂ (λ (a b : ℕ). a + b * 4294967296)
+    (word-split (n % 4294967296) (mod-lt n (lit< tt)))
+    (word-split (n / 4294967296) high)
+    ∙ halves n
 
 -- ---- and their bytes, of what was read: the lowest, and those above it
 lowest : (q r : ℕ) → r < 256 → (r + q * 256) % 256 ≡ r
@@ -192,10 +209,50 @@ listed-front zero l h = refl
 listed-front (suc n) [] h = absurd (omega arith)
 listed-front (suc n) (b ∷ l) h = ap (λ (r : List ℕ). b ∷ r) (listed-front n l (le-of-suc-le-suc h))
 
-abbrev four : List ℕ → ℕ → List ℕ
+abbrev pub four : List ℕ → ℕ → List ℕ
 four l at = getD l at 0 ∷ getD l (at + 1) 0 ∷ getD l (at + 2) 0 ∷ getD l (at + 3) 0 ∷ []
 
-four-again : (l : List ℕ) (at : ℕ) → AllBytes l → finite (floatAt l at) ≡ true → floatBytes (floatAt l at) ≡ four l at
+pub word-bytes-again : (l : List ℕ) (at : ℕ) → AllBytes l → wordBytes (wordAt l at) ≡ four l at
+unfolding wordAt
+word-bytes-again l at small =
+    word-again (getD l at 0) (getD l (at + 1) 0) (getD l (at + 2) 0) (getD l (at + 3) 0)
+    (small at) (small (at + 1)) (small (at + 2)) (small (at + 3))
+
+-- a number of four bytes is below 2^32, of eight below 2^64
+pub word-fits : (l : List ℕ) (at : ℕ) → AllBytes l → wordAt l at < 4294967296
+unfolding wordAt
+word-fits l at small =
+    below (getD l at 0) (getD l (at + 1) 0) (getD l (at + 2) 0) (getD l (at + 3) 0)
+    (small at) (small (at + 1)) (small (at + 2)) (small (at + 3))
+  where
+    below : (a b c d : ℕ) → a < 256 → b < 256 → c < 256 → d < 256 → word a b c d < 4294967296
+    below a b c d ha hb hc hd = omega arith
+
+pub long-fits : (l : List ℕ) (at : ℕ) → AllBytes l → longAt l at < 18446744073709551616
+unfolding longAt
+long-fits l at small = below (wordAt l at) (wordAt l (at + 4)) (word-fits l at small) (word-fits l (at + 4) small)
+  where
+    below : (a b : ℕ) → a < 4294967296 → b < 4294967296 → a + b * 4294967296 < 18446744073709551616
+    below a b ha hb = omega arith
+
+pub long-bytes-again : (l : List ℕ) (at : ℕ) → AllBytes l → longBytes (longAt l at) ≡ four l at ++ four l (at + 4)
+unfolding longAt
+long-bytes-again l at small =
+    let a = wordAt l at in
+    let b = wordAt l (at + 4) in
+    ap₂ (λ (m n : ℕ). wordBytes m ++ wordBytes n) (low a b first) (high a b first)
+    ∙ ap₂ (λ (m n : List ℕ). m ++ n) (word-bytes-again l at small) (word-bytes-again l (at + 4) small)
+  where
+    first : wordAt l at < 4294967296
+    first = word-fits l at small
+
+    low : (a b : ℕ) → a < 4294967296 → (a + b * 4294967296) % 4294967296 ≡ a
+    low a b h = ap (λ (n : ℕ). n % 4294967296) (add-comm a (b * 4294967296)) ∙ digits-mod b h
+
+    high : (a b : ℕ) → a < 4294967296 → (a + b * 4294967296) / 4294967296 ≡ b
+    high a b h = ap (λ (n : ℕ). n / 4294967296) (add-comm a (b * 4294967296)) ∙ digits-div b h
+
+pub four-again : (l : List ℕ) (at : ℕ) → AllBytes l → finite (floatAt l at) ≡ true → floatBytes (floatAt l at) ≡ four l at
 unfolding floatAt
 four-again l at small e = float-again (getD l at 0) (getD l (at + 1) 0) (getD l (at + 2) 0) (getD l (at + 3) 0)
     (small at) (small (at + 1)) (small (at + 2)) (small (at + 3)) e
@@ -270,10 +327,13 @@ feet-again l small long good e =
     ∙ listed-front 78 l long
 
 -- ---- the format holds what is read
+pub float-held : (l : List ℕ) (at : ℕ) → T (fits binary32 (floatAt l at))
+unfolding floatAt
+float-held l at = ofBits-fits binary32 (wordAt l at)
+
 pub point-held : (l : List ℕ) (at : ℕ) → HeldPoint (pointAt l at)
-unfolding floatAt pointAt
-point-held l at =
-    (ofBits-fits binary32 (wordAt l at), ofBits-fits binary32 (wordAt l (at + 4)), ofBits-fits binary32 (wordAt l (at + 8)))
+unfolding pointAt
+point-held l at = (float-held l at, float-held l (at + 4), float-held l (at + 8))
 
 pub feet-held : (l : List ℕ) (at : ℕ) (k : Leg) → HeldPoint (foot (feetAt l at) k)
 unfolding feetAt
@@ -283,6 +343,15 @@ feet-held l at leftMiddle = point-held l (at + 30)
 feet-held l at rightMiddle = point-held l (at + 42)
 feet-held l at leftRear = point-held l (at + 54)
 feet-held l at rightRear = point-held l (at + 66)
+
+pub feet-in-held : (l : List ℕ) (marks at : ℕ) (k : Leg) → HeldPoint (foot (feetIn l marks at) k)
+unfolding feetIn
+feet-in-held l marks at leftFront = point-held l at
+feet-in-held l marks at rightFront = point-held l (at + 12)
+feet-in-held l marks at leftMiddle = point-held l (at + 24)
+feet-in-held l marks at rightMiddle = point-held l (at + 36)
+feet-in-held l marks at leftRear = point-held l (at + 48)
+feet-in-held l marks at rightRear = point-held l (at + 60)
 
 -- ---- what is written is bytes
 pub bytes-joined : (a b : List ℕ) → AllBytes a → AllBytes b → AllBytes (a ++ b)

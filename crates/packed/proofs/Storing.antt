@@ -11,11 +11,10 @@ use Rattle.numbers.specs.Door.{finite}
 use Rattle.numbers.proofs.OnePass.{and-left, and-right}
 use Rattle.numbers.proofs.Stores.{stores-append}
 use Rattle.legs.specs.Legs.{Leg, leftFront, rightFront, leftMiddle, rightMiddle, leftRear, rightRear, foot, finitePoint, finiteFeet}
-use Rattle.legs.specs.Answers.{lifts}
 use Rattle.legs.specs.declared.Point.{Point}
 use Rattle.legs.specs.declared.Feet.{Feet}
 use Rattle.legs.proofs.OnePass.{each-true}
-use Rattle.packed.specs.Packed.{floatBytes, pointBytes, feetBytes}
+use Rattle.packed.specs.Packed.{floatBytes, pointBytes, pointsBytes}
 
 pub no-nan : (x : Float) → finite x ≡ true → T (not (isNan x))
 unfolding finite isNan
@@ -46,7 +45,7 @@ point-stored p at l a b c first second third =
     ∙ stores-append l at (floatBytes (p .x) ++ floatBytes (p .y)) (floatBytes (p .z))
 
 -- one run more behind a run
-more : (l a b : List ℕ) (at : ℕ) (run : List ℕ) (k : ℕ) (next : List ℕ) → k ≡ at + length run → a ≡ sets l at run → b ≡ sets a k next
+pub more : (l a b : List ℕ) (at : ℕ) (run : List ℕ) (k : ℕ) (next : List ℕ) → k ≡ at + length run → a ≡ sets l at run → b ≡ sets a k next
     → b ≡ sets l at (run ++ next)
 more l a b at run k next place e f =
     f
@@ -54,17 +53,16 @@ more l a b at run k next place e f =
     ∙ ap (λ (i : ℕ). sets (sets l at run) i next) place
     ∙ stores-append l at run next
 
-pub feet-stored : (f : Feet) (at : ℕ) (l m a b c d e g : List ℕ) → m ≡ sets l at (lifts f)
-    → a ≡ sets m (at + 6) (pointBytes (foot f leftFront)) → b ≡ sets a (at + 18) (pointBytes (foot f rightFront))
-    → c ≡ sets b (at + 30) (pointBytes (foot f leftMiddle)) → d ≡ sets c (at + 42) (pointBytes (foot f rightMiddle))
-    → e ≡ sets d (at + 54) (pointBytes (foot f leftRear)) → g ≡ sets e (at + 66) (pointBytes (foot f rightRear))
-    → g ≡ sets l at (feetBytes f)
-feet-stored f at l m a b c d e g marks lf rf lm rm lr rr =
-    let first = more l m a at (lifts f) (at + 6) (pointBytes (foot f leftFront)) refl marks lf in
-    let two = more l a b at (lifts f ++ pointBytes (foot f leftFront)) (at + 18) (pointBytes (foot f rightFront)) refl first rf in
-    let run = lifts f ++ (pointBytes (foot f leftFront) ++ pointBytes (foot f rightFront)) in
-    let three = more l b c at run (at + 30) (pointBytes (foot f leftMiddle)) refl two lm in
-    let four = more l c d at (run ++ pointBytes (foot f leftMiddle)) (at + 42) (pointBytes (foot f rightMiddle)) refl three rm in
+pub points-stored : (f : Feet) (at : ℕ) (l a b c d e g : List ℕ)
+    → a ≡ sets l at (pointBytes (foot f leftFront)) → b ≡ sets a (at + 12) (pointBytes (foot f rightFront))
+    → c ≡ sets b (at + 24) (pointBytes (foot f leftMiddle)) → d ≡ sets c (at + 36) (pointBytes (foot f rightMiddle))
+    → e ≡ sets d (at + 48) (pointBytes (foot f leftRear)) → g ≡ sets e (at + 60) (pointBytes (foot f rightRear))
+    → g ≡ sets l at (pointsBytes f)
+points-stored f at l a b c d e g lf rf lm rm lr rr =
+    let two = more l a b at (pointBytes (foot f leftFront)) (at + 12) (pointBytes (foot f rightFront)) refl lf rf in
+    let run = pointBytes (foot f leftFront) ++ pointBytes (foot f rightFront) in
+    let three = more l b c at run (at + 24) (pointBytes (foot f leftMiddle)) refl two lm in
+    let four = more l c d at (run ++ pointBytes (foot f leftMiddle)) (at + 36) (pointBytes (foot f rightMiddle)) refl three rm in
     let long = run ++ (pointBytes (foot f leftMiddle) ++ pointBytes (foot f rightMiddle)) in
-    let five = more l d e at long (at + 54) (pointBytes (foot f leftRear)) refl four lr in
-    more l e g at (long ++ pointBytes (foot f leftRear)) (at + 66) (pointBytes (foot f rightRear)) refl five rr
+    let five = more l d e at long (at + 48) (pointBytes (foot f leftRear)) refl four lr in
+    more l e g at (long ++ pointBytes (foot f leftRear)) (at + 60) (pointBytes (foot f rightRear)) refl five rr

@@ -24,6 +24,10 @@ pairAt l at = pair (getD l at 0) (getD l (at + 1) 0)
 unfoldable pub wordAt : List ℕ → ℕ → ℕ
 wordAt l at = word (getD l at 0) (getD l (at + 1) 0) (getD l (at + 2) 0) (getD l (at + 3) 0)
 
+-- and eight
+unfoldable pub longAt : List ℕ → ℕ → ℕ
+longAt l at = wordAt l at + wordAt l (at + 4) * 4294967296
+
 unfoldable pub floatAt : List ℕ → ℕ → Float
 unfolding wordAt
 floatAt l at = ofBits binary32 (wordAt l at)
@@ -48,6 +52,19 @@ feetAt l at =
       «right_rear» = footAt l (at + 5) (at + 66);
     }
 
+-- six feet whose marks stand from one place on and whose points from another, both in row order
+unfoldable pub feetIn : List ℕ → ℕ → ℕ → Feet
+unfolding pointAt
+feetIn l marks at =
+    record {
+      «left_front» = footAt l marks at;
+      «right_front» = footAt l (marks + 1) (at + 12);
+      «left_middle» = footAt l (marks + 2) (at + 24);
+      «right_middle» = footAt l (marks + 3) (at + 36);
+      «left_rear» = footAt l (marks + 4) (at + 48);
+      «right_rear» = footAt l (marks + 5) (at + 60);
+    }
+
 -- ---- the bytes that say them
 abbrev pub pairBytes : ℕ → List ℕ
 pairBytes n = n % 256 ∷ n / 256 % 256 ∷ []
@@ -55,18 +72,23 @@ pairBytes n = n % 256 ∷ n / 256 % 256 ∷ []
 abbrev pub wordBytes : ℕ → List ℕ
 wordBytes n = n % 256 ∷ n / 256 % 256 ∷ n / 65536 % 256 ∷ n / 16777216 % 256 ∷ []
 
+abbrev pub longBytes : ℕ → List ℕ
+longBytes n = wordBytes (n % 4294967296) ++ wordBytes (n / 4294967296)
+
 abbrev pub floatBytes : Float → List ℕ
 floatBytes x = wordBytes (toBits binary32 x)
 
 abbrev pub pointBytes : Point → List ℕ
 pointBytes p = floatBytes (p .x) ++ (floatBytes (p .y) ++ floatBytes (p .z))
 
-abbrev pub feetBytes : Feet → List ℕ
-feetBytes f =
-    lifts f
-    ++ (pointBytes (foot f leftFront)
+abbrev pub pointsBytes : Feet → List ℕ
+pointsBytes f =
+    pointBytes (foot f leftFront)
     ++ (pointBytes (foot f rightFront)
     ++ (pointBytes (foot f leftMiddle)
     ++ (pointBytes (foot f rightMiddle)
     ++ (pointBytes (foot f leftRear)
-    ++ pointBytes (foot f rightRear))))))
+    ++ pointBytes (foot f rightRear)))))
+
+abbrev pub feetBytes : Feet → List ℕ
+feetBytes f = lifts f ++ pointsBytes f

@@ -12,8 +12,8 @@ ghost use Rattle.numbers.specs.Told.{mark};
 ghost use Rattle.numbers.specs.Door.{finite};
 ghost use Rattle.legs.specs.Answers.{lifts};
 ghost use Rattle.legs.specs.Legs.{finitePoint, finiteFeet};
-ghost use Rattle.packed.specs.Packed.{pair, word, pairAt, wordAt, floatAt, pointAt, footAt, feetAt};
-ghost use Rattle.packed.specs.Packed.{pairBytes, wordBytes, floatBytes, pointBytes, feetBytes};
+ghost use Rattle.packed.specs.Packed.{pair, word, pairAt, wordAt, longAt, floatAt, pointAt, footAt, feetAt, feetIn};
+ghost use Rattle.packed.specs.Packed.{pairBytes, wordBytes, longBytes, floatBytes, pointBytes, pointsBytes, feetBytes};
 
 // Two bytes as a number, and four.
 fn pair(a: u8, b: u8) -> u16
@@ -42,6 +42,14 @@ pub fn word_at(s: &[u8], at: usize) -> u32
     ensures { λ r. ⌜ r ≡ wordAt (now (s .entry)) at ⌝ }
 {
     word(s[at], s[at + 1], s[at + 2], s[at + 3])
+}
+
+// The number of eight bytes.
+pub fn long_at(s: &[u8], at: usize) -> u64
+    requires { ⌜ at + 8 ≤ length (now s) ⌝ }
+    ensures { λ r. ⌜ r ≡ longAt (now (s .entry)) at ⌝ }
+{
+    word_at(s, at) as u64 + word_at(s, at + 4) as u64 * 4294967296
 }
 
 // The float of four bytes; every NaN pattern gives a NaN.
@@ -97,6 +105,21 @@ pub fn feet_at(s: &[u8], at: usize) -> Feet
     }
 }
 
+// The feet whose six marks stand from one place on, and whose 72 bytes of points from another.
+pub fn feet_in(s: &[u8], marks: usize, at: usize) -> Feet
+    requires { ⌜ (marks + 6 ≤ length (now s)) × (at + 72 ≤ length (now s)) ⌝ }
+    ensures { λ r. ⌜ r ≡ feetIn (now (s .entry)) marks at ⌝ }
+{
+    Feet {
+        left_front: foot_at(s, marks, at),
+        left_middle: foot_at(s, marks + 2, at + 24),
+        left_rear: foot_at(s, marks + 4, at + 48),
+        right_front: foot_at(s, marks + 1, at + 12),
+        right_middle: foot_at(s, marks + 3, at + 36),
+        right_rear: foot_at(s, marks + 5, at + 60),
+    }
+}
+
 // A number goes into two bytes from a place on.
 pub fn put_pair(s: &mut [u8], at: usize, n: u16)
     requires { ⌜ at + 2 ≤ length (now s) ⌝ }
@@ -115,6 +138,15 @@ pub fn put_word(s: &mut [u8], at: usize, n: u32)
     s[at + 1] = (n / 256 % 256) as u8;
     s[at + 2] = (n / 65536 % 256) as u8;
     s[at + 3] = (n / 16777216 % 256) as u8;
+}
+
+// A number goes into eight bytes.
+pub fn put_long(s: &mut [u8], at: usize, n: u64)
+    requires { ⌜ at + 8 ≤ length (now s) ⌝ }
+    ensures { λ _. ⌜ now (s .exit) ≡ sets (now (s .entry)) at (longBytes n) ⌝ }
+{
+    put_word(s, at, (n % 4294967296) as u32);
+    put_word(s, at + 4, (n / 4294967296) as u32);
 }
 
 // A finite float goes into four bytes.
@@ -143,7 +175,7 @@ fn mark(lifted: bool) -> u8
 }
 
 // The marks of six feet go into six bytes.
-fn put_marks(s: &mut [u8], at: usize, f: Feet)
+pub fn put_marks(s: &mut [u8], at: usize, f: Feet)
     requires { ⌜ at + 6 ≤ length (now s) ⌝ }
     ensures { λ _. ⌜ now (s .exit) ≡ sets (now (s .entry)) at (lifts f) ⌝ }
 {
@@ -155,16 +187,24 @@ fn put_marks(s: &mut [u8], at: usize, f: Feet)
     s[at + 5] = mark(f.right_rear.lifted);
 }
 
+// The points of six feet go into 72 bytes.
+pub fn put_points(s: &mut [u8], at: usize, f: Feet)
+    requires { ⌜ (at + 72 ≤ length (now s)) × (finiteFeet f ≡ true) ⌝ }
+    ensures { λ _. ⌜ now (s .exit) ≡ sets (now (s .entry)) at (pointsBytes f) ⌝ }
+{
+    put_point(s, at, f.left_front.point);
+    put_point(s, at + 12, f.right_front.point);
+    put_point(s, at + 24, f.left_middle.point);
+    put_point(s, at + 36, f.right_middle.point);
+    put_point(s, at + 48, f.left_rear.point);
+    put_point(s, at + 60, f.right_rear.point);
+}
+
 // Six feet go into 78 bytes.
 pub fn put_feet(s: &mut [u8], at: usize, f: Feet)
     requires { ⌜ (at + 78 ≤ length (now s)) × (finiteFeet f ≡ true) ⌝ }
     ensures { λ _. ⌜ now (s .exit) ≡ sets (now (s .entry)) at (feetBytes f) ⌝ }
 {
     put_marks(s, at, f);
-    put_point(s, at + 6, f.left_front.point);
-    put_point(s, at + 18, f.right_front.point);
-    put_point(s, at + 30, f.left_middle.point);
-    put_point(s, at + 42, f.right_middle.point);
-    put_point(s, at + 54, f.left_rear.point);
-    put_point(s, at + 66, f.right_rear.point);
+    put_points(s, at + 6, f);
 }
