@@ -1,0 +1,3 @@
+pub mod States
+pub mod Answers
+pub mod Conduct
