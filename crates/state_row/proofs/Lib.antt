@@ -1,0 +1,3 @@
+pub mod Finite
+pub mod Storing
+pub mod Back
