@@ -1,0 +1,5 @@
+pub mod Conducting
+pub mod Setting
+pub mod OneAnswer
+pub mod Laws
+pub mod Examples

@@ -1,0 +1,136 @@
+// What a C host calls to conduct a gait (request K10): three functions over numbers and rows of bytes. examples/conductor.h is their
+// header, docs/CONDUCTOR.md has the rows' layout. Lengths are metres, angles radians, times seconds and nanoseconds.
+use commands::MoveCommand;
+use commands::Time;
+use conductor::Reply;
+use conductor::State;
+use legs::Joints;
+ghost use mathlib.Core.Path.{_≡_};
+ghost use mathlib.Core.Bool.{true};
+ghost use lib.ListN.{length};
+ghost use Rattle.joints.specs.Configured.{finiteJoints};
+ghost use Rattle.conductor.specs.States.{finiteState};
+ghost use Rattle.state_row.specs.Layout.{stateBytes, jointBytes};
+ghost use Rattle.c_host.specs.Rows.{time, conductRows, result, stateRow, jointRow, standRefusal, standRow};
+ghost use Rattle.c_host.specs.Rows.{asked, commandRowRefusal, commandRow};
+
+// A fresh state: start, last, target and relaxed feet are the given ones, all standing, LRL is lifted, and the command stands still. The
+// refusal's number, or 0; a refusal leaves the state's row.
+#[no_mangle]
+pub extern "C" fn hopper_stand(state: &mut [u8], feet: &[u8], configuration: &[u8]) -> u32
+    ensures { λ r. ⌜ (r ≡ standRefusal (now (state .entry)) (now (feet .entry)) (now (configuration .entry)))
+        × (now (state .exit) ≡ standRow (now (state .entry)) (now (feet .entry)) (now (configuration .entry))) ⌝ }
+{
+    if feet.len() != 72 {
+        return 5;
+    }
+    if configuration.len() != 164 {
+        return 5;
+    }
+    if state.len() != 506 {
+        return 16;
+    }
+    let standing = state_row::standing_at(feet);
+    let built = state_row::configuration_at(configuration, 0);
+    let number = joints::ik_refused(standing, built);
+    if number != 0 {
+        return number;
+    }
+    state_row::put_state(state, conductor::stood(standing, built));
+    0
+}
+
+// A command goes into a state; all else stays, so that a step under way goes on at the new pace and height. The refusal's number, or 0; a
+// refusal leaves the row.
+#[no_mangle]
+pub extern "C" fn hopper_command(
+    state: &mut [u8],
+    x: f32,
+    y: f32,
+    rotation: f32,
+    seconds: u64,
+    nanoseconds: u32,
+    height: f32,
+    aggressive: u32,
+) -> u32
+    ensures { λ r. ⌜ (r ≡ commandRowRefusal (now (state .entry)) (asked x y rotation seconds nanoseconds height aggressive) aggressive)
+        × (now (state .exit) ≡ commandRow (now (state .entry)) (asked x y rotation seconds nanoseconds height aggressive) aggressive) ⌝ }
+{
+    if !state_row::is_state(state) {
+        return 16;
+    }
+    if 1 < aggressive {
+        return 16;
+    }
+    let before = state_row::state_at(state);
+    let command = MoveCommand {
+        direction_x: x,
+        direction_y: y,
+        rotation: rotation,
+        step_time: Time {
+            seconds: seconds,
+            nanoseconds: nanoseconds,
+        },
+        step_height: height,
+        aggressive_leg_lift: aggressive == 1,
+    };
+    let number = conductor::command_refused(before, command);
+    if number != 0 {
+        return number;
+    }
+    state_row::put_state(state, conductor::commanded(before, command));
+    0
+}
+
+// The state and its joints go into their rows.
+fn hand_over(state: &mut [u8], joints: &mut [u8], next: State, angles: Joints)
+    requires { ⌜ (length (now state) ≡ 506) × (length (now joints) ≡ 72) × (finiteState next ≡ true) × (finiteJoints angles ≡ true) ⌝ }
+    ensures { λ _. ⌜ (now (state .exit) ≡ stateBytes next) × (now (joints .exit) ≡ jointBytes angles) ⌝ }
+{
+    state_row::put_state(state, next);
+    state_row::put_joints(joints, angles);
+}
+
+// One call a tick: the step goes on, the next is planned, or the crawler rests, and the joints of the last feet are handed over. The low
+// byte is the refusal's number, 0 for none; above it the leg where that is 6 or 8, and the kind where it is 0: 0 a step, 1 planned, 2
+// rests. A refusal leaves both rows.
+#[no_mangle]
+pub extern "C" fn hopper_conduct(
+    state: &mut [u8],
+    joints: &mut [u8],
+    seconds: u64,
+    nanoseconds: u32,
+) -> u32
+    ensures { λ r. ⌜ (r ≡ result (conductRows (now (state .entry)) (now (joints .entry)) (time seconds nanoseconds)))
+        × (now (state .exit) ≡ stateRow (now (state .entry)) (now (joints .entry)) (time seconds nanoseconds))
+        × (now (joints .exit) ≡ jointRow (now (state .entry)) (now (joints .entry)) (time seconds nanoseconds)) ⌝ }
+{
+    if joints.len() != 72 {
+        return 5;
+    }
+    if !state_row::is_state(state) {
+        return 16;
+    }
+    let elapsed = Time {
+        seconds: seconds,
+        nanoseconds: nanoseconds,
+    };
+    let after = conductor::conducted(state_row::state_at(state), elapsed);
+    let reply = after.reply;
+    match reply {
+        Reply::Step(_, angles) => {
+            hand_over(state, joints, after.state, angles);
+            0
+        }
+        Reply::Planned(angles) => {
+            hand_over(state, joints, after.state, angles);
+            256
+        }
+        Reply::Rests(angles) => {
+            hand_over(state, joints, after.state, angles);
+            512
+        }
+        Reply::Refused(number) => number,
+        Reply::LegRefused(number, leg) => number + 256 * leg,
+    }
+}
