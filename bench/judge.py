@@ -9,6 +9,7 @@ import sys
 
 LRL = (0, 3, 4)  # left front, right middle, left rear, as places of a row
 RLR = (1, 2, 5)
+FLOATS, TRIPOD = 2 * 468, 2 * 504  # of a state row, in digits: where its floats end, and its tripod
 BANDS = ("step", "tstep", "estep", "plan", "fk")  # a line of theirs with marks has an m more
 
 
@@ -18,6 +19,11 @@ def number(bits):
 
 def floats(fields):
     return [number(f) for f in fields]
+
+
+def patterns(row):
+    """The floats of a row of bytes, lowest byte first, as eight hex digits each."""
+    return [bytes.fromhex(row[i:i + 8])[::-1].hex() for i in range(0, len(row), 8)]
 
 
 class Judge:
@@ -65,6 +71,22 @@ class Judge:
                 return bad
         return None
 
+    def conduct(self, got, want):
+        """What a call of this kind sets: z of last, the target, nothing; and the joints. All else is equal to the bit."""
+        if got[:2] != want[:2] or [len(f) for f in got] != [len(f) for f in want]:
+            return "another kind of answer"
+        kind, state, other = got[1], patterns(got[2][:FLOATS]), patterns(want[2][:FLOATS])
+        low, high = {"S": (18, 36), "P": (36, 54), "N": (0, 0)}[kind]
+        if state[:low] + state[high:] != other[:low] + other[high:] or got[2][FLOATS:] != want[2][FLOATS:]:
+            return "something that stays, a mark or the tripod differs"
+        bad = None
+        if kind == "S":
+            bad = self.step("conducted", ["ok", "S"] + state[low:high], ["ok", "S"] + other[low:high])
+        if kind == "P":
+            planned = ["plan"] + state[:18] + state[54:72] + [got[2][TRIPOD + 1]]
+            bad = self.plan(planned, ["ok"] + state[low:high], ["ok"] + other[low:high])
+        return bad or self.row("joints", patterns(got[3]), patterns(want[3]), 2.0 ** -16)
+
     def line(self, line, got, want):
         if got == want:
             return None
@@ -90,6 +112,8 @@ class Judge:
             return self.plan(given, g, w)
         if name in ("ik", "iks"):
             return self.row("joints", g[1:], w[1:], 2.0 ** -16)
+        if name == "conduct":
+            return self.conduct(g, w)
         if name == "fk":
             return self.row("forward kinematics", g[1:], w[1:], 2.0 ** -17)
         return "not equal to the bit"

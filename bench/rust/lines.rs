@@ -1,4 +1,5 @@
 // Answers operation lines (docs/OPERATIONS.md) by the plain Rust reading, for comparing with `replay`.
+mod conducted;
 mod json;
 #[path = "../taught/judge.rs"]
 mod judge;
@@ -119,6 +120,10 @@ impl<'a> Fields<'a> {
         }
         let good = !f.is_empty() && f.len() % 2 == 0 && f.bytes().all(|b| matches!(b, b'0'..=b'9' | b'a'..=b'f'));
         if good { (0..f.len()).step_by(2).map(|i| u8::from_str_radix(&f[i..i + 2], 16).ok()).collect() } else { None }
+    }
+    /// A row of bytes, at most 512.
+    fn bytes(&mut self) -> Parsed<Vec<u8>> {
+        self.text().filter(|row| row.len() <= 512)
     }
     /// A whole number in decimal, as it is written: no plus, no 0 in front, no minus before 0.
     fn whole(&mut self) -> Parsed<i32> {
@@ -379,6 +384,48 @@ fn on_wholes(n: [i64; 8]) -> Result<[i64; 3], Refusal> {
     Ok([sideways(sx, tx), sideways(sy, ty), sz + up])
 }
 
+/// A row of bytes, `-` for none.
+fn bytes(row: &[u8]) -> String {
+    if row.is_empty() { " -".to_string() } else { " ".to_string() + &row.iter().map(|b| format!("{b:02x}")).collect::<String>() }
+}
+
+/// A call of the conductor that is done, with its rows after it, or its refusal, with the rows as they were.
+fn told_rows(done: Result<String, conducted::Refused>, before: &[&[u8]]) -> String {
+    match done {
+        Ok(answer) => "ok".to_string() + &answer,
+        Err((n, leg)) => {
+            let leg = leg.map_or(String::new(), |leg| format!(" {leg}"));
+            format!("R {n}{leg} row") + &before.iter().map(|row| bytes(row)).collect::<String>()
+        }
+    }
+}
+
+/// The conductor's calls.
+fn on_conductor(name: &str, f: &mut Fields) -> Parsed<String> {
+    const LENT: [u8; 512] = [0xa5; 512];
+    Some(match name {
+        "conduct" => {
+            let (n, state, elapsed) = (f.short()? as usize, f.bytes()?, f.time()?);
+            f.done()?;
+            let lent = LENT[..128].get(..n)?;
+            let done = conducted::conduct(&state, n, &elapsed);
+            told_rows(done.map(|(kind, after, joints)| format!(" {kind}") + &bytes(&after) + &bytes(&joints)), &[&state, lent])
+        }
+        "cstand" => {
+            let (n, feet, config) = (f.short()? as usize, f.bytes()?, f.bytes()?);
+            f.done()?;
+            let lent = LENT.get(..n)?;
+            told_rows(conducted::stand(n, &feet, &config).map(|after| bytes(&after)), &[lent])
+        }
+        _ => {
+            let (state, x, y, rotation, step_time, height) = (f.bytes()?, f.float()?, f.float()?, f.float()?, f.time()?, f.float()?);
+            let (c, aggressive) = (Command { x, y, rotation, step_time, height, aggressive: false }, f.short()?);
+            f.done()?;
+            told_rows(conducted::command(&state, c, aggressive).map(|after| bytes(&after)), &[&state])
+        }
+    })
+}
+
 fn answer(line: &str, shared: &mut Shared) -> Parsed<String> {
     let mut f = Fields { rest: line.split(' '), marks: false };
     let word = f.rest.next()?;
@@ -534,6 +581,7 @@ fn answer(line: &str, shared: &mut Shared) -> Parsed<String> {
             f.done()?;
             told(on_wholes(n), |point| point.map(|c| format!(" {c}")).concat())
         }
+        "conduct" | "cstand" | "ccommand" => return on_conductor(name, &mut f),
         "tfresh" | "tput" | "tget" | "tdrop" | "tlist" | "tlend" | "tpoke" | "tpeek" => return on_taught(name, &mut f, shared),
         _ => return on_commands(name, &mut f),
     })

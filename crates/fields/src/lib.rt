@@ -2,6 +2,7 @@
 // A line is a row of words, and so is an answer.
 pub mod answers;
 pub mod asked;
+pub mod hex;
 pub mod line;
 pub mod names;
 pub mod said;

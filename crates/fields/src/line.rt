@@ -11,12 +11,15 @@ const BLANK: u8 = 32;
 pub const LONGEST: usize = 4096;
 
 // Kinds of fields that a shape does not name: marks that a line does not say, so that all are 0, and a bit for each value.
-const UNSAID: u64 = 11;
+const UNSAID: u64 = 16;
 
-const VALUE_BITS: u64 = 13;
+const VALUE_BITS: u64 = 17;
 
-// Kinds that it does: a float, six bits, the first word of a leg, which may be `-` for the whole leg, and a whole number in decimal.
+// Kinds that it does: a float, bytes, six bits, the first word of a leg, which may be `-` for the whole leg, and a whole number in
+// decimal. The word of bytes is the place in the line where they begin (`hex`).
 const FLOAT: u64 = 1;
+
+const BYTES: u64 = 11;
 
 const SIX_BITS: u64 = 12;
 
@@ -56,7 +59,7 @@ pub fn is_note(s: &[u8]) -> bool {
 }
 
 // The place of the first blank from `from` on, or the end.
-fn end_of(s: &[u8], from: usize) -> usize
+pub fn end_of(s: &[u8], from: usize) -> usize
     requires { ⌜ from ≤ length (now s) ⌝ }
     ensures { λ r. ⌜ (from ≤ r) × (r ≤ length (now (s .entry))) ⌝ }
 {
@@ -99,7 +102,7 @@ fn values_of(given: u64) -> u64 {
 // How many words a kind has. Feet have their marks behind them, said or not.
 fn count_of(kind: u64, given: u64) -> u64 {
     match kind {
-        FLOAT | 4 | 5 | 6 | SIX_BITS | WHOLE => 1,
+        FLOAT | 4 | 5 | 6 | BYTES | SIX_BITS | WHOLE => 1,
         2 | LEG => 3,
         3 | 9 => 19,
         7 => 41,
@@ -153,7 +156,7 @@ fn takes(kind: u64, digits: usize, value: u64, given: u64) -> bool {
         0 | UNSAID => false,
         4 => digits <= 8,
         5 => (digits == 1) & (value < 2),
-        6 | WHOLE => true,
+        6 | BYTES | WHOLE => true,
         SIX_BITS => digits == 6,
         VALUE_BITS => digits as u64 == given,
         LEG => (digits == 8) | ((digits == 1) & (value == NULL)),
@@ -200,9 +203,14 @@ pub fn is_none(s: &[u8]) -> bool {
     if s.len() == 1 { s[0] == b'-' } else { false }
 }
 
-// The number of a field of this kind.
-fn number(s: &[u8], kind: u64) -> Digits {
-    if (kind == SIX_BITS) | (kind == VALUE_BITS) {
+// The number of a field of this kind that begins at a place.
+fn number(s: &[u8], from: u64, kind: u64) -> Digits {
+    if kind == BYTES {
+        Digits {
+            good: true,
+            value: from,
+        }
+    } else if (kind == SIX_BITS) | (kind == VALUE_BITS) {
         bits(s)
     } else if (kind == LEG) & is_none(s) {
         Digits {
@@ -223,7 +231,7 @@ fn field(s: &[u8], at: usize, kind: u64, given: u64) -> FieldRead
 {
     let from = at + 1;
     let to = end_of(s, from);
-    let d = number(&s[from..to], kind);
+    let d = number(&s[from..to], from as u64, kind);
     FieldRead {
         value: d.value,
         end: to,

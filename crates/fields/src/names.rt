@@ -107,6 +107,13 @@ pub const TPEEK: u64 = 0x74_7065_656b;
 // The one in whole numbers.
 pub const WSTEP: u64 = 0x77_7374_6570;
 
+// Those on the conductor, over rows of bytes.
+pub const CONDUCT: u64 = 0x63_6f6e_6475_6374;
+
+pub const CSTAND: u64 = 0x6373_7461_6e64;
+
+pub const CCOMMAND: u64 = 0x6363_6f6d_6d61_6e64;
+
 // Those that take and show marks.
 pub const MERGEM: u64 = 0x6d65_7267_656d;
 
@@ -130,7 +137,7 @@ pub const FKM: u64 = 0x66_6b6d;
 
 // What a line holds after its name, a hex digit each: 1 a float, 2 a point, 3 a row, 4 a u32, 5 a bit, 6 seconds,
 // 7 a configuration, 8 as many points as the number before says; 9 a row with its marks, a as many feet as the number before says,
-// their marks behind them; c six bits, e a point or `-`, f a whole number. A time is 64, a command 2_6415.
+// their marks behind them; b bytes, c six bits, e a point or `-`, f a whole number. A time is 64, a command 2_6415.
 pub fn shape(name: u64) -> u64 {
     match name {
         ABS | SQRT | SIN | COS | ACOS | BITS => 0x1,
@@ -165,6 +172,16 @@ pub fn shape(name: u64) -> u64 {
         TGET | TDROP | TLEND => 0x4,
         TPOKE | TPEEK => 0x44,
         WSTEP => 0xffff_ffff,
+        _ => conductor_shape(name),
+    }
+}
+
+// The same of those on the conductor; of any other name it is 0.
+fn conductor_shape(name: u64) -> u64 {
+    match name {
+        CONDUCT => 0x4b64,
+        CSTAND => 0x4bb,
+        CCOMMAND => 0xb111_6414,
         _ => 0,
     }
 }

@@ -174,9 +174,14 @@ pub fn counted(o: Words, n: u32) -> Words {
     o
 }
 
-// The word `row`, and a row as the line gave it, with its marks.
+// The word `row`, before a row that is as it was.
+pub fn row(o: Words) -> Words {
+    letters(o, 0x72_6f77)
+}
+
+// The same, and a row of feet as the line gave it, with its marks.
 pub fn given(o: Words, w: Words, i: usize) -> Words {
-    let mut o = letters(o, 0x72_6f77);
+    let mut o = row(o);
     let mut k = 0;
     while k < 18 {
         let next = bits(o, asked::bits(w, i, k));

@@ -106,15 +106,24 @@ fn byte(t: Text, b: u8) -> Text {
     spelled(t, b as u64, 16, 2)
 }
 
-// Bytes as hex digits, and a newline. They are at most 2,047.
-fn digits(s: &[u8]) -> Text {
-    let mut t = ending(10);
+// Bytes as hex digits, and a last byte. They are at most 2,047.
+fn digits(s: &[u8], last: u8) -> Text {
+    let mut t = ending(last);
     let mut i = s.len();
     while 0 < i {
         i -= 1;
         t = byte(t, s[i]);
     }
     t
+}
+
+// Bytes as one field, and a last byte: hex digits, two each, or `-` for none.
+fn bytes(s: &[u8], last: u8) -> Text {
+    if s.len() == 0 {
+        before(ending(last), b'-')
+    } else {
+        digits(s, last)
+    }
 }
 
 // The bytes from a place on are written out.
@@ -149,10 +158,17 @@ pub fn begin(o: Words, s: &[u8]) {
     io::write_all(STDOUT_FILENO, b" ");
 }
 
-// An answer that ends with bytes is written out as a line: the bytes are hex digits, two each, as one field.
+// An answer that ends with bytes, as one field, is written out as a line.
 pub fn print_bytes(o: Words, s: &[u8]) {
     put(o, 32);
-    out(digits(s));
+    out(bytes(s, 10));
+}
+
+// One that ends with two rows of bytes.
+pub fn print_two(o: Words, s: &[u8], t: &[u8]) {
+    put(o, 32);
+    out(bytes(s, 32));
+    out(bytes(t, 10));
 }
 
 // A line is written out as it came.

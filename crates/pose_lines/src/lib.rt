@@ -4,6 +4,7 @@ mod said;
 
 use fields::Words;
 use fields::asked as read;
+use fields::hex;
 use fields::line;
 use fields::names;
 use fields::said as words;
@@ -26,7 +27,7 @@ fn from_row(row: &[u8], n: usize) -> Words {
 // The pose of a text that stands as hex digits, of which a line has fewer than 4,096.
 fn from_digits(s: &[u8]) -> Words {
     let mut row = [0u8; 2048];
-    if asked::text(s, &mut row) {
+    if hex::read(s, &mut row) {
         from_row(&row, s.len() / 2)
     } else {
         words::unreadable()

@@ -71,6 +71,7 @@ pub fn print(s: &[u8], room: &mut [u8], lent: &mut usize) {
         | names::TPOKE
         | names::TPEEK => taught_lines::print(name, s, room, lent),
         names::WSTEP => text::print(whole_lines::answer(s)),
+        names::CONDUCT | names::CSTAND | names::CCOMMAND => conduct_lines::print(name, s),
         _ => text::print(answer(name, s)),
     }
 }

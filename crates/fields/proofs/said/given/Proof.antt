@@ -10,8 +10,8 @@ Inv-loop w i o₀ k₀ o k = k ≤ 18
 abbrev μ-loop : tie.MeasureT-loop
 μ-loop w i o₀ k₀ o k = 18 - k
 
-letters-requires : tie.Need-letters-requires Inv-loop μ-loop
-letters-requires c κs = search needs
+row-requires : tie.Need-row-requires Inv-loop μ-loop
+row-requires c κs = search needs
 
 loop-holds : tie.Need-loop-holds Inv-loop μ-loop
 loop-holds c = search needs
@@ -46,7 +46,7 @@ given-spec =
     (tie.spec
     Inv-loop
     μ-loop
-    letters-requires
+    row-requires
     loop-holds
     bits-requires
     bits-requires-2

@@ -6,10 +6,10 @@ use Rattle.fields.proofs.text.digits.Statement.{statement}
 use Rattle.fields.proofs.text.digits.Tie as tie
 
 abbrev Inv-loop : tie.InvT-loop
-Inv-loop s t₀ i₀ t i = i ≤ length s
+Inv-loop s last t₀ i₀ t i = i ≤ length s
 
 abbrev μ-loop : tie.MeasureT-loop
-μ-loop s t₀ i₀ t i = i
+μ-loop s last t₀ i₀ t i = i
 
 ending-requires : tie.Need-ending-requires Inv-loop μ-loop
 ending-requires c κs = search needs

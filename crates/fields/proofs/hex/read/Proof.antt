@@ -1,10 +1,10 @@
--- `pose_lines::asked::text` is safe and ends: the place goes up to half of the digits, and the row keeps its length.
+-- `fields::hex::read` is safe and ends: the place goes up to half of the digits, and the row keeps its length.
 use lib.ListN.{length}
 use mathlib.Core.Path.{_≡_}
 use Prim.Native.Nat.{_-_}
 use borrow.Author.Needs.{needs}
-use Rattle.pose_lines.proofs.asked.text.Statement.{statement}
-use Rattle.pose_lines.proofs.asked.text.Tie as tie
+use Rattle.fields.proofs.hex.read.Statement.{statement}
+use Rattle.fields.proofs.hex.read.Tie as tie
 
 abbrev Inv-loop : tie.InvT-loop
 Inv-loop s row₀ good₀ i₀ row good i = length row ≡ length row₀
@@ -48,8 +48,8 @@ same-length c = search needs
 returns : tie.Need-returns Inv-loop μ-loop
 returns c = search needs
 
-pub text-spec : {M : Type 1} → statement M
-text-spec =
+pub read-spec : {M : Type 1} → statement M
+read-spec =
     tie.close
     (tie.spec
     Inv-loop
