@@ -3,7 +3,8 @@
 What a library compiled for a board takes there: bytes by room, what it wants from outside, the deepest stack, the bytes of the
 four angle functions and the root; and what a board's flash would hold, linked with the compiler's routines: bytes, what of them
 comes from outside, f64 routines and f64 instructions. Ends with status 1 where there is f64. Of the library of `leg_board`, which has
-one entry, bytes, wants, stack and flash against its goals, and status 1 where one is missed. WORDS are the compiler's, for linking.
+one entry, bytes, wants, stack and flash against its goals, and status 1 where one is missed; of that of `c_host`, which has three, the
+same without goals, and status 1 where there is f64. WORDS are the compiler's, for linking.
 Needs the binutils and the libraries of gcc-arm-none-eabi."""
 import collections
 import functools
@@ -34,6 +35,8 @@ GOAL = 6 * 1024
 LEG = "hopper_leg_step"
 LEG_FLASH = 3 * 1024
 LEG_STACK = 128
+# The conductor's entries.
+C_HOST = ["hopper_stand", "hopper_command", "hopper_conduct"]
 # A routine on floats of either width by its name: __aeabi_fadd, __aeabi_cfcmple, __aeabi_i2f, __aeabi_f2iz, __addsf3, __floatsisf.
 FLOAT = re.compile(r"__aeabi_(c?[fd]|[a-z]+2[fd])|__\w*[sd]f")
 # A routine on f64 by its name: __aeabi_dadd, __aeabi_cdcmple, __aeabi_d2f, __aeabi_f2d, __adddf3, __truncdfsf2.
@@ -52,6 +55,8 @@ def tool(name, *words):
 def room(name):
     if name == LEG:
         return "leg_board"
+    if name in C_HOST:
+        return "c_host"
     if name.startswith("probe_"):
         return ROOM.get(name[6:].split(".")[0], "steps")
     return name.split("::")[0] if "::" in name else "shared constants"
@@ -207,7 +212,7 @@ def deepest(elf, scratch):
             deep[f], path[f] = frames[f] + below[0], below[1]
         return deep[f]
 
-    entries = sorted(((depth(f), f) for f, n in name_at.items() if n.startswith("probe_") or n == LEG), reverse=True)
+    entries = sorted(((depth(f), f) for f, n in name_at.items() if n.startswith("probe_") or n in [LEG, *C_HOST]), reverse=True)
     print("  stack by entry: " + ", ".join(f"{name_at[f].removeprefix('probe_')} {d}" for d, f in entries))
     top = entries[0]
     chain, f = [], top[1]
@@ -236,12 +241,32 @@ def leg_board(name, path, words):
     return all(met for met, _ in goals)
 
 
+def c_host(name, path, words):
+    """The board that links the conductor. Whether it is without f64."""
+    print(f"{name}, c_host, -Os ({words})")
+    by_room(path)
+    largest(path)
+    wanted(path)
+    with tempfile.TemporaryDirectory() as scratch:
+        elf = link(words, path, os.path.join(scratch, "conductor"), C_HOST, ["-lc", "-lgcc"])
+        stack = deepest(elf, scratch)
+        outside = sum(from_outside(elf, path).values())
+        code, tables = bytes_of(elf)
+        print(f"  {'linked image':18} {'flash':>7} {'outside':>8}   f64 routines")
+        found = image("three entries", elf, path)
+    own = sum(size for _, size, _ in sections(path))
+    print(f"{name}, c_host: {own} bytes of its own, linked {code + tables} ({outside} from outside), {stack} bytes of stack,"
+          f" f64: {'some' if found else 'none'}")
+    return not found
+
+
 def main():
     if len(sys.argv) != 4:
         sys.exit(__doc__)
     name, path, words = sys.argv[1:]
-    if f" T {LEG}\n" in tool("nm", path):
-        sys.exit(0 if leg_board(name, path, words) else 1)
+    for entry, board in ((LEG, leg_board), (C_HOST[0], c_host)):
+        if f" T {entry}\n" in tool("nm", path):
+            sys.exit(0 if board(name, path, words) else 1)
     print(f"{name}, -Os ({words})")
     by_room(path)
     largest(path)
