@@ -15,8 +15,8 @@ use Rattle.numbers.proofs.Flags.{by-test, where-true, where-false, chosen}
 use Rattle.numbers.specs.Limits.{footLimit}
 use Rattle.numbers.specs.Door.{unless, firstOf}
 use Rattle.numbers.proofs.OnePass.{let-through, let-through-to}
-use Rattle.legs.specs.Legs.{Leg, points, foot, lifted, whole, every, finiteFeet, permittedFeet}
-use Rattle.legs.specs.declared.Foot.{Foot}
+use Rattle.legs.specs.Legs.{Leg, point, points, foot, lifted, whole, every, finiteFeet, permittedFeet}
+use Rattle.legs.specs.declared.Points.{Points}
 use Rattle.legs.specs.declared.Feet.{Feet}
 use Rattle.legs.specs.declared.Joints.{Joints}
 use Rattle.legs.proofs.OnePass.{in-feet-row}
@@ -35,7 +35,8 @@ use Rattle.steps.specs.declared.Lift.{Lift}
 use Rattle.steps.specs.declared.NextEven.the-variants.{Step as EvenStep, NoStep}
 use Rattle.steps.proofs.Taken.{even-step-taken}
 use Rattle.steps.proofs.Told.{evenRefusal}
-use Rattle.steps.proofs.Marks.{feetAt, one-foot-and-its-mark}
+use Rattle.steps.proofs.FootByFoot.{one-foot-alone}
+use Rattle.steps.proofs.Marks.{feetAt, points-of-step, one-foot-and-its-mark}
 use Rattle.steps.proofs.Done.{even-points, even-all-there, none-after}
 use Rattle.planner.specs.Entry.{planRefusal, plannedFeet}
 use Rattle.planner.proofs.LetIn.{plan-let-in}
@@ -152,29 +153,50 @@ module _ (s : State) (elapsed : Time) (f : Feet) (j : Joints) (e : told (SaysSte
         ∙ none-after (evenOf s) (evenLast (evenOf s) f) elapsed f (elapsed-permitted s elapsed step-accepted)
         (period-permitted s elapsed step-accepted) up (step-taken .0) target-finite later
 
--- ---- ONE FOOT
-pub one-foot : (s s' : State) (e e' : Time) (f f' : Feet) (j j' : Joints) (l : Leg)
-    → told (SaysStep f j) ≡ conductTold s e → told (SaysStep f' j') ≡ conductTold s' e'
-    → foot (s .start) l ≡ foot (s' .start) l → foot (s .last) l ≡ foot (s' .last) l → foot (s .target) l ≡ foot (s' .target) l
-    → lifted (s .last) l ≡ lifted (s' .last) l
-    → evenProgress e (s .command .«step_time») ≡ evenProgress e' (s' .command .«step_time»)
-    → s .lifted ≡ s' .lifted → s .command ≡ s' .command
-    → whole f l ≡ whole f' l
-one-foot s s' e e' f f' j j' l says says' start last target had progress tripod command =
-    let lift : Tripod → MoveCommand → Lift = λ t c. evenOf (record {
-      start = s .start;
-      last = s .last;
-      target = s .target;
-      relaxed = s .relaxed;
-      lifted = t;
-      command = c;
-      configuration = s .configuration;
-    }) .lift in
-    ap (λ (x : Feet). whole x l) (feet-made s e f j says)
-    ∙ one-foot-and-its-mark (s .start) (s' .start) (s .last) (s' .last) (s .target) (s' .target) (evenOf s .lift)
-    (evenProgress e (s .command .«step_time»)) l start last target had
-    ∙ ap₂ (λ (a : Lift) (p : Float). whole (feetAt (s' .start) (s' .last) (s' .target) a p) l) (ap₂ lift tripod command) progress
-    ∙ sym (ap (λ (x : Feet). whole x l) (feet-made s' e' f' j' says'))
+-- ---- ONE FOOT: two calls that say a step, and agree on one foot's start, last and target points, on progress, lifted tripod and command
+module _ (s s' : State) (e e' : Time) (f f' : Feet) (j j' : Joints) (l : Leg)
+    (says : told (SaysStep f j) ≡ conductTold s e) (says' : told (SaysStep f' j') ≡ conductTold s' e')
+    (start : foot (s .start) l ≡ foot (s' .start) l) (last : foot (s .last) l ≡ foot (s' .last) l)
+    (target : foot (s .target) l ≡ foot (s' .target) l)
+    (progress : evenProgress e (s .command .«step_time») ≡ evenProgress e' (s' .command .«step_time»))
+    (tripod : s .lifted ≡ s' .lifted) (command : s .command ≡ s' .command) where
+  -- what is read of the feet is the same, if it is of the feet that are made at one lift and progress
+  read-alike : {A : Type 0} (read : Feet → A)
+      → read (feetAt (s .start) (s .last) (s .target) (evenOf s .lift) (evenProgress e (s .command .«step_time»)))
+      ≡ read (feetAt (s' .start) (s' .last) (s' .target) (evenOf s .lift) (evenProgress e (s .command .«step_time»)))
+      → read f ≡ read f'
+  read-alike read alike =
+      let lift : Tripod → MoveCommand → Lift = λ t c. evenOf (record {
+        start = s .start;
+        last = s .last;
+        target = s .target;
+        relaxed = s .relaxed;
+        lifted = t;
+        command = c;
+        configuration = s .configuration;
+      }) .lift in
+      ap read (feet-made s e f j says)
+      ∙ alike
+      ∙ ap₂ (λ (a : Lift) (p : Float). read (feetAt (s' .start) (s' .last) (s' .target) a p)) (ap₂ lift tripod command) progress
+      ∙ sym (ap read (feet-made s' e' f' j' says'))
+
+  -- the same next point, whatever the marks
+  pub one-foot-point : foot f l ≡ foot f' l
+  one-foot-point =
+      let lift = evenOf s .lift in
+      let at = evenProgress e (s .command .«step_time») in
+      read-alike (λ (x : Feet). foot x l)
+      (ap (λ (p : Points). point p l) (points-of-step (s .lifted) (s .last) (points (s .target)) _)
+      ∙ one-foot-alone (points (s .start)) (points (s' .start)) (points (s .last)) (points (s' .last)) (points (s .target))
+      (points (s' .target)) lift at l start last target
+      ∙ sym (ap (λ (p : Points). point p l) (points-of-step (s .lifted) (s' .last) (points (s' .target)) _)))
+
+  -- and the same mark, where they agree on its last one too
+  pub one-foot : lifted (s .last) l ≡ lifted (s' .last) l → whole f l ≡ whole f' l
+  one-foot had =
+      read-alike (λ (x : Feet). whole x l)
+      (one-foot-and-its-mark (s .start) (s' .start) (s .last) (s' .last) (s .target) (s' .target) (evenOf s .lift)
+      (evenProgress e (s .command .«step_time»)) l start last target had)
 
 -- ---- plans and rests: the last feet stay, so that the joints are those of the call before
 module _ (s : State) (elapsed later : Time) (first : Accepted s elapsed) (second : Accepted (stateAfter s elapsed) later) where

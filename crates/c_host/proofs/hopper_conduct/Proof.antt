@@ -8,16 +8,20 @@ use lib.Dec.{eqb}
 use lib.ListN.{length}
 use borrow.Author.Tests.{eq-eqb, ne-eqb}
 use Rattle.numbers.proofs.Flags.{not-true, not-false}
+use Rattle.legs.specs.declared.Joints.{Joints}
 use Rattle.commands.specs.declared.Time.{Time}
+use Rattle.joints.specs.Configured.{finiteJoints}
+use Rattle.conductor.specs.States.{finiteState}
 use Rattle.conductor.specs.Answers.{told}
 use Rattle.conductor.specs.Conduct.{conductTold, stateAfter}
 use Rattle.conductor.specs.declared.State.{State}
 use Rattle.conductor.specs.declared.Reply.{Reply}
 use Rattle.conductor.specs.declared.Reply.the-variants.{Step, Planned, Rests, Refused, LegRefused}
-use Rattle.conductor.proofs.Laws.{refusal-said, leg-said}
-use Rattle.state_row.specs.Layout.{isState, stateOf}
+use Rattle.conductor.proofs.Laws.{jointsSaid, refusal-said, leg-said}
+use Rattle.state_row.specs.Layout.{isState, stateOf, stateBytes, jointBytes}
 use Rattle.state_row.proofs.Back.{state-row-length}
-use Rattle.c_host.proofs.Conducting.{no-joint-row, no-state-row, refused-call, refused-number}
+use Rattle.c_host.specs.Rows.{result}
+use Rattle.c_host.proofs.Conducting.{Leaves, no-joint-row, no-state-row, refused-call, refused-number}
 use Rattle.c_host.proofs.Conducting.{stored-finite, joints-finite, stored-call}
 use borrow.Author.Needs.{needs}
 use Rattle.c_host.proofs.hopper_conduct.Statement.{statement}
@@ -75,44 +79,44 @@ state-at-requires c κs =
     state-row-length (tested .before .before .before .before .before .args .state .now)
     (sym (tested .is-state .ensures) ∙ not-false _ (c .before .if2 .left))
 
+-- a reply that refuses nothing: what storing its state and joints asks, and what is then in the rows
+module _ (c : tie.After-conducted) (r : Reply) (d : Joints) (is : c .conducted .result .reply ≡ r) (none : eqb (told r .number) 0 ≡ true)
+  where
+    says : told r ≡ conductTold (stateOf (row c)) (time c)
+    says = ap told (sym is) ∙ known c .0
+
+    ready : (length (row c) ≡ 506)
+        × (length (joints c) ≡ 72)
+        × (finiteState (c .conducted .result .state) ≡ true)
+        × (finiteJoints (jointsSaid d r) ≡ true)
+    ready = (
+      state-row-length (row c) (good c),
+      joint-length c,
+      stored-finite (row c) (joints c) (time c) (joint-row c) (good c) r _ says (known c .1) none,
+      joints-finite (row c) (joints c) (time c) (joint-row c) (good c) r _ says (known c .1) none d,
+    )
+
+    stored : (l' j' : List ℕ) → l' ≡ stateBytes (c .conducted .result .state) → j' ≡ jointBytes (jointsSaid d r)
+        → Leaves (row c) (joints c) (time c) (result (told r)) l' j'
+    stored = stored-call (row c) (joints c) (time c) (joint-row c) (good c) r _ says (known c .1) none d
+
 hand-over-requires : tie.Need-hand-over-requires
 unfolding told
 hand-over-requires c κs =
     let said = c .before .before .before .reply .given in
-    let asked = c .before .before .before .before .before in
-    let r = Step (said .0 .0) (said .0 .1 .0) in
-    let e = ap told (sym (said .1)) ∙ known asked .0 in (
-      state-row-length (row asked) (good asked),
-      joint-length asked,
-      stored-finite (row asked) (joints asked) (time asked) (joint-row asked) (good asked) r _ e (known asked .1) refl,
-      joints-finite (row asked) (joints asked) (time asked) (joint-row asked) (good asked) r _ e (known asked .1) refl (said .0 .1 .0),
-    )
+    ready (c .before .before .before .before .before) (Step (said .0 .0) (said .0 .1 .0)) (said .0 .1 .0) (said .1) refl
 
 hand-over-requires-2 : tie.Need-hand-over-requires-2
 unfolding told
 hand-over-requires-2 c κs =
     let said = c .before .before .before .reply2 .given in
-    let asked = c .before .before .before .before .before in
-    let r = Planned (said .0 .0) in
-    let e = ap told (sym (said .1)) ∙ known asked .0 in (
-      state-row-length (row asked) (good asked),
-      joint-length asked,
-      stored-finite (row asked) (joints asked) (time asked) (joint-row asked) (good asked) r _ e (known asked .1) refl,
-      joints-finite (row asked) (joints asked) (time asked) (joint-row asked) (good asked) r _ e (known asked .1) refl (said .0 .0),
-    )
+    ready (c .before .before .before .before .before) (Planned (said .0 .0)) (said .0 .0) (said .1) refl
 
 hand-over-requires-3 : tie.Need-hand-over-requires-3
 unfolding told
 hand-over-requires-3 c κs =
     let said = c .before .before .before .reply3 .given in
-    let asked = c .before .before .before .before .before in
-    let r = Rests (said .0 .0) in
-    let e = ap told (sym (said .1)) ∙ known asked .0 in (
-      state-row-length (row asked) (good asked),
-      joint-length asked,
-      stored-finite (row asked) (joints asked) (time asked) (joint-row asked) (good asked) r _ e (known asked .1) refl,
-      joints-finite (row asked) (joints asked) (time asked) (joint-row asked) (good asked) r _ e (known asked .1) refl (said .0 .0),
-    )
+    ready (c .before .before .before .before .before) (Rests (said .0 .0)) (said .0 .0) (said .1) refl
 
 -- the leg and the number of a refusal that names one are small
 named : (c : tie.After-reply5) → (c .reply5 .given .0 .1 .0 ≤ 5) × (c .reply5 .given .0 .0 ≤ 8) × (eqb (c .reply5 .given .0 .0) 0 ≡ false)
@@ -133,38 +137,29 @@ add-result c =
 returns-3 : tie.Need-returns-3
 unfolding told
 returns-3 c =
-    let stored = c .before .before .before .before in
-    let found = stored .before .before .before .before in
-    let asked = found .before .before in
+    let held = c .before .before .before .before in
+    let found = held .before .before .before .before in
     let said = found .reply .given in
-    let r = Step (said .0 .0) (said .0 .1 .0) in
-    let e = ap told (sym (said .1)) ∙ known asked .0 in
-    stored-call (row asked) (joints asked) (time asked) (joint-row asked) (good asked) r _ e (known asked .1) refl (said .0 .1 .0) _ _
-    (stored .hand-over .ensures .0) (stored .hand-over .ensures .1)
+    stored (found .before .before) (Step (said .0 .0) (said .0 .1 .0)) (said .0 .1 .0) (said .1) refl _ _
+    (held .hand-over .ensures .0) (held .hand-over .ensures .1)
 
 returns-4 : tie.Need-returns-4
 unfolding told
 returns-4 c =
-    let stored = c .before .before .before .before in
-    let found = stored .before .before .before .before in
-    let asked = found .before .before in
+    let held = c .before .before .before .before in
+    let found = held .before .before .before .before in
     let said = found .reply2 .given in
-    let r = Planned (said .0 .0) in
-    let e = ap told (sym (said .1)) ∙ known asked .0 in
-    stored-call (row asked) (joints asked) (time asked) (joint-row asked) (good asked) r _ e (known asked .1) refl (said .0 .0) _ _
-    (stored .hand-over2 .ensures .0) (stored .hand-over2 .ensures .1)
+    stored (found .before .before) (Planned (said .0 .0)) (said .0 .0) (said .1) refl _ _
+    (held .hand-over2 .ensures .0) (held .hand-over2 .ensures .1)
 
 returns-5 : tie.Need-returns-5
 unfolding told
 returns-5 c =
-    let stored = c .before .before .before .before in
-    let found = stored .before .before .before .before in
-    let asked = found .before .before in
+    let held = c .before .before .before .before in
+    let found = held .before .before .before .before in
     let said = found .reply3 .given in
-    let r = Rests (said .0 .0) in
-    let e = ap told (sym (said .1)) ∙ known asked .0 in
-    stored-call (row asked) (joints asked) (time asked) (joint-row asked) (good asked) r _ e (known asked .1) refl (said .0 .0) _ _
-    (stored .hand-over3 .ensures .0) (stored .hand-over3 .ensures .1)
+    stored (found .before .before) (Rests (said .0 .0)) (said .0 .0) (said .1) refl _ _
+    (held .hand-over3 .ensures .0) (held .hand-over3 .ensures .1)
 
 returns-6 : tie.Need-returns-6
 returns-6 c =
