@@ -10,9 +10,11 @@ import collections
 import functools
 import os
 import re
-import subprocess
 import sys
 import tempfile
+
+sys.path.append(os.path.dirname(os.path.dirname(os.path.abspath(__file__))))
+from linked import bytes_of, doubles, from_outside, link, sections, stacks, tool
 
 # An entry's own code counts with its room; what it calls has the room's name in its symbol.
 ROOM = {
@@ -39,17 +41,7 @@ LEG_STACK = 128
 C_HOST = ["hopper_stand", "hopper_command", "hopper_conduct"]
 # A routine on floats of either width by its name: __aeabi_fadd, __aeabi_cfcmple, __aeabi_i2f, __aeabi_f2iz, __addsf3, __floatsisf.
 FLOAT = re.compile(r"__aeabi_(c?[fd]|[a-z]+2[fd])|__\w*[sd]f")
-# A routine on f64 by its name: __aeabi_dadd, __aeabi_cdcmple, __aeabi_d2f, __aeabi_f2d, __adddf3, __truncdfsf2.
-DOUBLE = re.compile(r"__aeabi_(c?d|[a-z]+2d)|__\w*df")
-# An instruction on f64. Loads and copies of a double register have none of these names: a unit for f32 alone has them too.
-DOUBLE_INSTRUCTION = re.compile(r"\tv\S*\.f64\b")
-# A part of a linker's map: section, address, bytes, archive and member.
-MAPPED = re.compile(r"^ (\.\S+)\s+0x[0-9a-f]+\s+0x([0-9a-f]+) (\S+\.a)\((\S+)\.o\)$", re.M)
 HEAP = re.compile(r"alloc|free|sbrk")
-
-
-def tool(name, *words):
-    return subprocess.run(["arm-none-eabi-" + name, *words], capture_output=True, text=True, check=True).stdout
 
 
 def room(name):
@@ -62,13 +54,9 @@ def room(name):
     return name.split("::")[0] if "::" in name else "shared constants"
 
 
-def sections(path):
-    """Name, bytes and whether it is code, of each section that a board's flash would hold."""
-    lines = tool("objdump", "-h", "-w", path).splitlines()
-    for line in lines:
-        f = line.split()
-        if len(f) > 7 and owner(f[1]) not in ONCE_MORE and f[0].isdigit() and "ALLOC" in line and "CONTENTS" in line and not f[1].startswith(".ARM."):
-            yield f[1], int(f[2], 16), "CODE" in line
+def own_sections(path):
+    """Those of the library, less the entries that are counted nowhere."""
+    return ((name, size, is_code) for name, size, is_code in sections(path) if owner(name) not in ONCE_MORE)
 
 
 def owner(section):
@@ -76,13 +64,13 @@ def owner(section):
 
 
 def largest(path):
-    most = sorted(((size, name) for name, size, _ in sections(path)), reverse=True)[:6]
+    most = sorted(((size, name) for name, size, _ in own_sections(path)), reverse=True)[:6]
     print("  largest: " + ", ".join(f"{owner(name)} {size}" for size, name in most))
 
 
 def by_room(path):
     code, table = collections.Counter(), collections.Counter()
-    for name, size, is_code in sections(path):
+    for name, size, is_code in own_sections(path):
         if size:
             (code if is_code else table)[room(owner(name))] += size
     print(f"  {'room':18} {'code':>7} {'tables':>7}")
@@ -98,47 +86,6 @@ def wanted(path):
     return names
 
 
-def link(words, path, out, keep, libraries):
-    """An image of these entries and what they call. OUT.map says what came from where."""
-    roots = [f"-Wl,-u,{k}" for k in keep]
-    subprocess.run(["arm-none-eabi-gcc", *words.split(), "-nostdlib", "-nostartfiles", "-Wl,--gc-sections", "-Wl,-e," + keep[0],
-                    "-Wl,--no-warn-rwx-segments,-z,noexecstack", f"-Wl,-Map,{out}.map", *roots, path, *libraries, "-o", out], check=True)
-    return out
-
-
-def bytes_of(elf):
-    """Code and tables."""
-    return [sum(size for _, size, is_code in sections(elf) if is_code == code) for code in (True, False)]
-
-
-def from_outside(elf, library):
-    """Bytes in flash of each member of another archive than the library's."""
-    with open(elf + ".map") as f:
-        placed = f.read().partition("Linker script and memory map")[2]
-    found = collections.Counter()
-    for section, size, archive, member in MAPPED.findall(placed):
-        if re.match(r"\.(text|rodata|data)\b", section) and not os.path.samefile(archive, library) and int(size, 16):
-            found[member.replace("lib_a-", "")] += int(size, 16)
-    return found
-
-
-def doubles(elf):
-    """F64 routines with their bytes, one name for each, and the functions that have f64 instructions with how many."""
-    named = {}
-    for line in tool("nm", "-S", "--defined-only", elf).splitlines():
-        f = line.split()
-        if DOUBLE.match(f[-1]):
-            size = int(f[1], 16) if len(f) == 4 else 0
-            named.setdefault(f[0], []).append((-size, not f[-1].startswith("__aeabi"), f[-1]))
-    routines = sorted(min(names)[::2] for names in named.values())
-    instructions, here = collections.Counter(), ""
-    for line in tool("objdump", "-d", "-w", elf).splitlines():
-        head = re.match(r"[0-9a-f]+ <(.*)>:$", line)
-        here = head[1] if head else here
-        instructions[here] += bool(DOUBLE_INSTRUCTION.search(line))
-    return [f"{name} {-size}" for size, name in routines], [f"{name} {count}" for name, count in instructions.items() if count]
-
-
 def image(title, elf, library):
     """A line on a linked image. Whether it has f64."""
     routines, instructions = doubles(elf)
@@ -149,78 +96,15 @@ def image(title, elf, library):
     return bool(routines or instructions)
 
 
-def uleb(data, at):
-    value = shift = 0
-    while True:
-        b = data[at]
-        value |= (b & 127) << shift
-        at, shift = at + 1, shift + 7
-        if b < 128:
-            return value, at
-
-
-def told_frames(elf, scratch):
-    """The frames that the compiler wrote down, by address."""
-    dump = os.path.join(scratch, "stack")
-    tool("objcopy", "-O", "binary", "--only-section=.stack_sizes", "--set-section-flags", ".stack_sizes=alloc", elf, dump)
-    data, at, frames = open(dump, "rb").read(), 0, {}
-    while at < len(data):
-        address = int.from_bytes(data[at:at + 4], "little") & ~1
-        frames[address], at = uleb(data, at + 4)
-    return frames
-
-
-def pushed(text):
-    """Bytes that one instruction of a routine from outside takes from the stack."""
-    m = re.search(r"\t(push|stmdb\tsp!,)\s*\{(.*)\}", text)
-    if m:
-        count = 0
-        for part in m.group(2).split(","):
-            ends = re.findall(r"r(\d+)", part)
-            count += int(ends[1]) - int(ends[0]) + 1 if len(ends) == 2 else 1
-        return 4 * count
-    m = re.search(r"\tsub(?:\.w|w)?\tsp, (?:sp, )?#(\d+)", text)
-    return int(m.group(1)) if m else 0
-
-
-def deepest(elf, scratch):
-    frames, calls, name_at, here = {}, collections.defaultdict(set), {}, None
-    told = told_frames(elf, scratch)
-    for line in tool("objdump", "-d", "-w", elf).splitlines():
-        head = re.match(r"([0-9a-f]+) <(.*)>:$", line)
-        if head:
-            here = int(head.group(1), 16)
-            name_at[here] = head.group(2)
-            frames[here] = told.get(here, 0)
-            continue
-        if here is None:
-            continue
-        if here not in told:
-            frames[here] += pushed(line)
-        to = re.search(r"\t(?:bl|blx|b|b\.n|b\.w)\t([0-9a-f]+) <([^>+]*)>", line)
-        if to and int(to.group(1), 16) != here:
-            calls[here].add(int(to.group(1), 16))
-        if re.search(r"\tblx?\tr\d", line):
-            print("  an indirect call in", name_at[here])
-    deep, path = {}, {}
-
-    def depth(f, above=()):
-        if f in above:
-            sys.exit("board: a call leads back to itself: " + name_at[f])
-        if f not in deep:
-            below = max(((depth(g, above + (f,)), g) for g in calls[f] if g in frames), default=(0, None))
-            deep[f], path[f] = frames[f] + below[0], below[1]
-        return deep[f]
-
-    entries = sorted(((depth(f), f) for f, n in name_at.items() if n.startswith("probe_") or n in [LEG, *C_HOST]), reverse=True)
-    print("  stack by entry: " + ", ".join(f"{name_at[f].removeprefix('probe_')} {d}" for d, f in entries))
-    top = entries[0]
-    chain, f = [], top[1]
-    while f is not None:
-        chain.append(f"{name_at[f]} {frames[f]}")
-        f = path[f]
-    print(f"  deepest stack: {top[0]} bytes: " + ", ".join(chain))
-    return top[0]
+def deepest(elf):
+    """Prints the deepest stack of each entry and the frames of the deepest; its bytes."""
+    named = re.findall(r" T (probe_\w+)", tool("nm", elf))
+    chains = stacks(elf, {*named, LEG, *C_HOST})
+    depths = sorted(((sum(size for _, size in chain), name) for name, chain in chains.items()), reverse=True)
+    print("  stack by entry: " + ", ".join(f"{name.removeprefix('probe_')} {d}" for d, name in depths))
+    most, top = depths[0]
+    print(f"  deepest stack: {most} bytes: " + ", ".join(f"{name} {size}" for name, size in chains[top]))
+    return most
 
 
 def leg_board(name, path, words):
@@ -232,7 +116,7 @@ def leg_board(name, path, words):
     with tempfile.TemporaryDirectory() as scratch:
         elf = link(words, path, os.path.join(scratch, "leg"), [LEG], ["-lc", "-lgcc"])
         flash, outside = sum(bytes_of(elf)), sum(from_outside(elf, path).values())
-        stack = deepest(elf, scratch)
+        stack = deepest(elf)
     print(f"  linked image: {flash} bytes, of which {outside} from outside")
     goals = [(flash <= LEG_FLASH, f"{flash} bytes of code and table, goal {LEG_FLASH}"),
              (stack <= LEG_STACK, f"{stack} bytes of stack, goal {LEG_STACK}"),
@@ -249,12 +133,12 @@ def c_host(name, path, words):
     wanted(path)
     with tempfile.TemporaryDirectory() as scratch:
         elf = link(words, path, os.path.join(scratch, "conductor"), C_HOST, ["-lc", "-lgcc"])
-        stack = deepest(elf, scratch)
+        stack = deepest(elf)
         outside = sum(from_outside(elf, path).values())
         code, tables = bytes_of(elf)
         print(f"  {'linked image':18} {'flash':>7} {'outside':>8}   f64 routines")
         found = image("three entries", elf, path)
-    own = sum(size for _, size, _ in sections(path))
+    own = sum(size for _, size, _ in own_sections(path))
     print(f"{name}, c_host: {own} bytes of its own, linked {code + tables} ({outside} from outside), {stack} bytes of stack,"
           f" f64: {'some' if found else 'none'}")
     return not found
@@ -278,7 +162,7 @@ def main():
         whole = link(words, path, at("whole"), entries, board)
         outside = from_outside(whole, path)
         print(f"  linked in from outside: {sum(outside.values())} bytes:", ", ".join(f"{m} {size}" for m, size in outside.most_common()))
-        deepest(whole, scratch)
+        deepest(whole)
         print(f"  {'linked image':18} {'flash':>7} {'outside':>8}   f64 routines")
         found = [image("every entry", whole, path)]
         found += [image(one[6:], link(words, path, at(one), [one], board), path) for one in FIVE]

@@ -389,15 +389,13 @@ fn bytes(row: &[u8]) -> String {
     if row.is_empty() { " -".to_string() } else { " ".to_string() + &row.iter().map(|b| format!("{b:02x}")).collect::<String>() }
 }
 
-/// A call of the conductor that is done, with its rows after it, or its refusal, with the rows as they were.
-fn told_rows(done: Result<String, conducted::Refused>, before: &[&[u8]]) -> String {
-    match done {
-        Ok(answer) => "ok".to_string() + &answer,
-        Err((n, leg)) => {
-            let leg = leg.map_or(String::new(), |leg| format!(" {leg}"));
-            format!("R {n}{leg} row") + &before.iter().map(|row| bytes(row)).collect::<String>()
-        }
-    }
+/// A call of the conductor, done or refused, with its rows as it left them.
+fn told_rows(done: Result<&str, conducted::Refused>, after: &[&[u8]]) -> String {
+    let told = match done {
+        Ok(kind) => "ok".to_string() + kind,
+        Err((n, leg)) => format!("R {n}{} row", leg.map_or(String::new(), |leg| format!(" {leg}"))),
+    };
+    told + &after.iter().map(|row| bytes(row)).collect::<String>()
 }
 
 /// The conductor's calls.
@@ -405,23 +403,25 @@ fn on_conductor(name: &str, f: &mut Fields) -> Parsed<String> {
     const LENT: [u8; 512] = [0xa5; 512];
     Some(match name {
         "conduct" => {
-            let (n, state, elapsed) = (f.short()? as usize, f.bytes()?, f.time()?);
+            let (n, mut state, elapsed) = (f.short()? as usize, f.bytes()?, f.time()?);
             f.done()?;
-            let lent = LENT[..128].get(..n)?;
-            let done = conducted::conduct(&state, n, &elapsed);
-            told_rows(done.map(|(kind, after, joints)| format!(" {kind}") + &bytes(&after) + &bytes(&joints)), &[&state, lent])
+            let mut joints = LENT[..128].get(..n)?.to_vec();
+            let done = conducted::conduct(&mut state, &mut joints, &elapsed);
+            told_rows(done.map(|kind| [" S", " P", " N"][kind as usize]), &[&state, &joints])
         }
         "cstand" => {
             let (n, feet, config) = (f.short()? as usize, f.bytes()?, f.bytes()?);
             f.done()?;
-            let lent = LENT.get(..n)?;
-            told_rows(conducted::stand(n, &feet, &config).map(|after| bytes(&after)), &[lent])
+            let mut state = LENT.get(..n)?.to_vec();
+            let done = conducted::stand(&mut state, &feet, &config);
+            told_rows(done.map(|()| ""), &[&state])
         }
         _ => {
-            let (state, x, y, rotation, step_time, height) = (f.bytes()?, f.float()?, f.float()?, f.float()?, f.time()?, f.float()?);
+            let (mut state, x, y, rotation, step_time, height) = (f.bytes()?, f.float()?, f.float()?, f.float()?, f.time()?, f.float()?);
             let (c, aggressive) = (Command { x, y, rotation, step_time, height, aggressive: false }, f.short()?);
             f.done()?;
-            told_rows(conducted::command(&state, c, aggressive).map(|after| bytes(&after)), &[&state])
+            let done = conducted::command(&mut state, c, aggressive);
+            told_rows(done.map(|()| ""), &[&state])
         }
     })
 }

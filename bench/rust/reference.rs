@@ -321,8 +321,9 @@ impl Time {
         self.seconds <= 3600 && self.nanoseconds < BILLION
     }
     fn is_period(&self) -> bool {
-        let total = self.seconds as u128 * BILLION as u128 + self.nanoseconds as u128;
-        self.nanoseconds < BILLION && (1_000_000..=60_000_000_000).contains(&total)
+        // more than 60 seconds are too many, whatever comes with them
+        let total = || self.seconds * BILLION as u64 + self.nanoseconds as u64;
+        self.nanoseconds < BILLION && self.seconds <= 60 && (1_000_000..=60_000_000_000).contains(&total())
     }
 }
 

@@ -1,0 +1,336 @@
+#!/usr/bin/env python3
+"""board.py LEVEL NAME FOLDER WORDS [NAME FOLDER WORDS ..]
+Whole entries on a board, ours and the plain Rust reading's, from what bench/entries/board made in FOLDER. The program runs in the emulator
+qemu-arm, one instruction at a time, on inputs of the permitted range as bench/rust/side_by_side.rs draws them; every answer of ours is
+judged by Rust's, as document 01 says (bench/judge.py). A line an entry: the mean instructions from the entry to the return, of a walk those
+of one of its steps, the ratio, its goal. Then each entry linked alone: bytes of code and tables, of those what the libraries of the
+compiler gave, and the deepest stack; and what of ours works on f64. The last line counts the goals missed. Status 1 where an answer is wrong
+or ours has f64. WORDS are the compiler's, for linking."""
+import os
+import random
+import struct
+import sys
+import tempfile
+
+sys.path.append(os.path.dirname(os.path.dirname(os.path.abspath(__file__))))
+import emulated
+import judge
+import linked
+
+INPUTS = 64
+WALKS = 6  # each is many steps
+ROOM = 1 << 22  # bytes, as in board.rs
+CALL = struct.Struct("<8IQ2I2Q")
+PERIOD = 600_000_000
+STACK = 2048
+# By board: at most this part of Rust's instructions.
+MOVES = {"Cortex-M4": 1.0, "Cortex-M0": 1.0}
+ANGLES = {"Cortex-M4": 0.8, "Cortex-M0": 0.6}
+NONE = {}
+AROUND = [(0.2, 0.16), (0.2, -0.16), (0.0, 0.2), (0.0, -0.2), (-0.2, 0.16), (-0.2, -0.16)]
+NAMES = ["left_front", "left_middle", "left_rear", "right_front", "right_middle", "right_rear"]
+FILL = b"\xee"
+
+
+def f32(x):
+    return struct.unpack("<f", struct.pack("<f", x))[0]
+
+
+def packed(numbers):
+    return struct.pack(f"<{len(numbers)}f", *numbers)
+
+
+def fields(row):
+    """The floats of bytes, as judge.py has them."""
+    return judge.patterns(row.hex())
+
+
+def hexed(numbers):
+    return fields(packed(numbers))
+
+
+class Given:
+    """One input of an entry. `n` and `m` are the lengths lent."""
+
+    def __init__(self, row, made, n=None, m=None, marks=0, tripod=0, nanoseconds=0):
+        self.row, self.made, self.marks, self.tripod, self.nanoseconds = row, made, marks, tripod, nanoseconds
+        self.n = len(row) // 4 if n is None else n
+        self.m = len(made) // 4 if m is None else m
+
+    def call(self, function):
+        row, made = (b + b"\0" * (-len(b) % 8) for b in (self.row, self.made))
+        head = CALL.pack(function, len(row), len(made), self.n, self.m, self.marks, self.tripod, self.nanoseconds, 0, PERIOD, 77, 99, 0)
+        return head + row + made
+
+
+class Told:
+    """One answer: the numbers and both rows as they came back."""
+
+    def __init__(self, back, at):
+        _, given, made, _, _, _, _, _, _, _, self.lifted, self.result, self.len = CALL.unpack_from(back, at)
+        at += CALL.size
+        self.row = back[at:at + given]
+        self.made = back[at + given:at + given + made]
+
+    def same(self, other):
+        return vars(self) == vars(other)
+
+    def numbers(self, other):
+        """The same but for the row that is made."""
+        return (self.lifted, self.result, self.len, self.row) == (other.lifted, other.result, other.len, other.row)
+
+
+# ---- what an answer of ours is held to: None, or what is wrong
+
+def equal(_, ours, rust, result):
+    return None if ours.same(rust) and ours.result == result else "not equal to the bit"
+
+
+def counted(_, ours, rust, result):
+    return None if ours.same(rust) and 0 < ours.len < 1000 else "another count"
+
+
+def stepped(_, ours, rust, result):
+    if not ours.numbers(rust) or ours.result != result:
+        return "another kind of answer"
+    return judged.step("step", *(["ok", "S"] + fields(t.made) for t in (ours, rust)))
+
+
+def planned(given, ours, rust, result):
+    if not ours.numbers(rust) or ours.result != result:
+        return "another kind of answer"
+    line = ["plan"] + fields(given.row[:144]) + [str(given.tripod)]
+    return judged.plan(line, *(["ok"] + fields(t.made) for t in (ours, rust)))
+
+
+def near(bound):
+    def held(_, ours, rust, result):
+        if not ours.numbers(rust) or ours.result != result:
+            return "another kind of answer"
+        return judged.row("row", fields(ours.made), fields(rust.made), bound)
+    return held
+
+
+def conducted(_, ours, rust, result):
+    if (ours.result, rust.result) != (result, result):
+        return "another kind of answer"
+    kind = "SPN"[result // 256]
+    return judged.conduct(*(["ok", kind, t.row[:506].hex(), t.made.hex()] for t in (ours, rust)))
+
+
+# ---- inputs
+
+pick = random.Random(1)
+judged = judge.Judge()
+
+
+def floats(n, low, high):
+    return [f32(pick.uniform(low, high)) for _ in range(n)]
+
+
+def marks():
+    return pick.getrandbits(18)
+
+
+def stance(spread):
+    return [c for x, y in AROUND for c in (*(f32(a + pick.uniform(-spread, spread)) for a in (x, y)), f32(-0.12))]
+
+
+def configuration():
+    legs = [[x * 0.4, y * 0.4, 0.0, -judge.math.atan2(y, x), 2.6, 2.1] for x, y in AROUND]
+    return [f32(c) for c in [0.052, 0.066, 0.135, 0.6, -0.4] + sum(legs, [])]
+
+
+def row_of(numbers, made=18, **more):
+    return Given(packed(numbers), FILL * (4 * made), **more)
+
+
+def move():
+    return row_of(floats(6, -0.4, 0.4) + floats(1, 0.001, 0.1), made=4, m=3)
+
+
+def six_moves():
+    return row_of(floats(36, -0.4, 0.4) + floats(1, 0.001, 0.1), marks=marks())
+
+
+def walk():
+    return row_of(floats(6, -0.4, 0.4) + [f32(0.01)], made=0)
+
+
+def six_walks():
+    return row_of(floats(36, -0.4, 0.4) + [f32(0.01)], made=0, marks=marks())
+
+
+def step():
+    numbers = floats(54, -0.4, 0.4) + floats(1, 0.001, 0.02) + floats(1, 0.01, 0.05)
+    return row_of(numbers, marks=marks(), tripod=pick.getrandbits(1), nanoseconds=pick.randrange(350_000_000))
+
+
+def plan():
+    numbers = stance(0.03) + stance(0.005) + floats(2, -0.05, 0.05) + floats(1, -0.5, 0.5) + [f32(0.03)]
+    return row_of(numbers, marks=marks(), tripod=pick.getrandbits(1))
+
+
+def inverse():
+    return row_of(stance(0.03) + configuration(), marks=marks())
+
+
+def forward():
+    joints = [c for _ in range(6) for c in floats(1, 2.2, 3.0) + floats(1, 4.0, 5.5) + floats(1, 2.5, 4.0)]
+    return row_of(joints + configuration())
+
+
+def conduct(moves, done):
+    """A state's row and an elapsed time: a step under way, or one that is done, under a command that moves or not."""
+    start, relaxed = stance(0.03), stance(0.005)
+    target = start if done else stance(0.03)
+    part = pick.uniform(0.05, 0.8)
+    last = [f32(a + (b - a) * part) for a, b in zip(start, target)] if not done else start
+    command = floats(2, -0.04, 0.04) + floats(1, -0.3, 0.3) if moves else [0.0] * 3
+    state = packed(start + last + target + relaxed + command + [f32(0.03)] + configuration())
+    state += struct.pack("<IQ", PERIOD, 0) + bytes(pick.getrandbits(1) for _ in range(25)) + b"\0"
+    return Given(state, FILL * 72, n=506, m=72, nanoseconds=pick.randrange(int(PERIOD * part), PERIOD))
+
+
+def text():
+    legs = [f'"{name}":[{",".join(f"{c:.8f}" for c in floats(3, -1, 1))}]' for name in NAMES]
+    row = ("{" + ",".join(legs) + "}").encode()
+    return Given(row, FILL * 72, n=len(row), m=18)
+
+
+def pose():
+    return Given(packed(floats(18, -1, 1)), FILL * 512, m=512, marks=0x555)
+
+
+def half_full():
+    """32 poses of the 64 that a room has places for, ids 2 to 64."""
+    places = [struct.pack("<H", 2 * k + 2) + bytes(pick.getrandbits(1) for _ in range(6)) + packed(floats(18, -1, 1)) for k in range(32)]
+    return b"".join(places).ljust(5120, b"\0")
+
+
+def put():
+    return Given(packed(floats(18, -1, 1)), half_full(), m=5120, marks=marks() & 63, tripod=2 * pick.randrange(33) + 1)
+
+
+def get():
+    return Given(half_full(), FILL * 72, n=5120, tripod=2 * pick.randrange(32) + 2)
+
+
+class Entry:
+    """`functions` are its names without the side, as the numbers in board.rs count them, `result` what a call answers."""
+
+    def __init__(self, title, name, make, held, goal, result=0, inputs=INPUTS):
+        self.title, self.name, self.make, self.held, self.goal, self.result, self.inputs = title, name, make, held, goal, result, inputs
+
+
+# In the order of the numbers in board.rs.
+FUNCTIONS = ["move", "move_feet", "walk", "walk_feet", "step", "timed_step", "even_step", "plan", "ik", "ik_strict", "fk", "conduct",
+             "from_json", "to_json", "taught_put", "taught_get"]
+ENTRIES = [
+    Entry("one move", "move", move, equal, MOVES, 256),
+    Entry("six moves", "move_feet", six_moves, equal, MOVES, 256),
+    Entry("a walk, each step", "walk", walk, counted, MOVES, inputs=WALKS),
+    Entry("six walks, each step", "walk_feet", six_walks, counted, MOVES, inputs=WALKS),
+    Entry("step by distance", "step", step, stepped, ANGLES, 256),
+    Entry("timed step", "timed_step", step, stepped, ANGLES, 256),
+    Entry("even step", "even_step", step, stepped, ANGLES, 256),
+    Entry("planner", "plan", plan, planned, ANGLES),
+    Entry("inverse kinematics", "ik", inverse, near(2.0 ** -16), ANGLES),
+    Entry("strict inverse kinematics", "ik_strict", inverse, near(2.0 ** -16), ANGLES),
+    Entry("forward kinematics", "fk", forward, near(2.0 ** -17), ANGLES),
+    Entry("conductor, a step", "conduct", lambda: conduct(True, False), conducted, ANGLES),
+    Entry("conductor, a plan", "conduct", lambda: conduct(True, True), conducted, ANGLES, 256),
+    Entry("conductor, at rest", "conduct", lambda: conduct(False, True), conducted, ANGLES, 512),
+    Entry("a pose read", "from_json", text, equal, NONE),
+    Entry("a pose written", "to_json", pose, equal, NONE),
+    Entry("a taught pose put", "taught_put", put, equal, NONE),
+    Entry("a taught pose got", "taught_get", get, equal, NONE),
+]
+SIDES = ["ours", "Rust"]
+
+
+def symbol(name, side):
+    if side == "Rust":
+        return "rust_" + name
+    return "hopper_conduct" if name == "conduct" else "probe_" + name
+
+
+def archive(folder, name, side):
+    return os.path.join(folder, "board.a" if side == "Rust" else "c_host.a" if name == "conduct" else "probe.a")
+
+
+def instructions(board, program):
+    """Prints the lines of one program; the number of goals missed."""
+    made = [(e, given) for e in ENTRIES for given in (e.make() for _ in range(e.inputs))]
+    calls = [given.call(2 * FUNCTIONS.index(e.name) + 1 + side) for e, given in made for side in range(2)]
+    names = [symbol(name, side) for name in FUNCTIONS for side in SIDES]
+    assert sum(map(len, calls)) < ROOM - CALL.size
+    back, counts = emulated.run(program, b"".join(calls).ljust(ROOM, b"\0"), names)
+    if len(counts) != len(calls):
+        sys.exit(f"board: {program} made {len(counts)} of {len(calls)} calls")
+    spent, steps, at = {e: [0, 0] for e in ENTRIES}, {e: 0 for e in ENTRIES}, 0
+    for k, (e, given) in enumerate(made):
+        ours, rust = Told(back, at), Told(back, at + len(calls[2 * k]))
+        at += len(calls[2 * k]) + len(calls[2 * k + 1])
+        wrong = e.held(given, ours, rust, e.result)
+        if wrong:
+            sys.exit(f"board: {program}: {e.title}, input {given.row.hex()}: {wrong}; results {ours.result}, {rust.result}")
+        spent[e] = [a + b for a, b in zip(spent[e], counts[2 * k:2 * k + 2])]
+        steps[e] += ours.len if e.held is counted else 1
+    missed = 0
+    print(f"{board:27} {'ours':>9} {'Rust':>9} {'ratio':>6} {'goal':>5}")
+    for e in ENTRIES:
+        ours, rust = (n / steps[e] for n in spent[e])
+        goal = e.goal.get(board)
+        late = goal is not None and ours > goal * rust
+        missed += late
+        said = f"{goal:5.1f}  {'missed' if late else 'met'}" if goal else ""
+        print(f"{e.title:27} {ours:9.1f} {rust:9.1f} {ours / rust:6.2f} {said}", flush=True)
+    return missed
+
+
+def sizes(board, folder, words):
+    """Prints each entry linked alone; the number of goals missed, and whether ours has f64."""
+    missed, found = 0, []
+    print(f"{board + ', linked alone':27} {'ours: code':>10} {'tables':>7} {'outside':>8} {'stack':>6} {'Rust: code':>11} {'tables':>7} {'outside':>8} {'stack':>6}")
+    deepest = []
+    with tempfile.TemporaryDirectory() as scratch:
+        for name in FUNCTIONS:
+            line = f"{name:27}"
+            for side, width in zip(SIDES, (10, 11)):
+                root, library = symbol(name, side), archive(folder, name, side)
+                elf = linked.link(words, library, os.path.join(scratch, root), [root], ["-lc", "-lgcc"])
+                (code, tables), outside = linked.bytes_of(elf), sum(linked.from_outside(elf, library).values())
+                chain = linked.stacks(elf, [root])[root]
+                depth = sum(size for _, size in chain)
+                line += f" {code:{width}} {tables:7} {outside:8} {depth:6}"
+                if side == "ours":
+                    deepest.append((depth, chain))
+                    found += [f"{name}: {what}" for what in sum(linked.doubles(elf), [])]
+            late = deepest[-1][0] > STACK
+            missed += late
+            print(line + (f"  stack goal {STACK} missed" if late else ""), flush=True)
+    for depth, chain in sorted(deepest, reverse=True)[:4]:
+        print(f"  ours, {depth} bytes of stack: " + ", ".join(f"{name} {size}" for name, size in chain))
+    print(f"  f64 in ours: {'; '.join(found) or 'none'}")
+    return missed, bool(found)
+
+
+def main():
+    words = sys.argv[1:]
+    if len(words) < 4 or len(words) % 3 != 1:
+        sys.exit(__doc__)
+    level, missed, doubles = words[0], 0, False
+    print(f"instructions of a call, both sides at {level}; goals: of Rust's instructions; at most {STACK} bytes of stack")
+    for board, folder, compiler in zip(words[1::3], words[2::3], words[3::3]):
+        pick.seed(1)
+        missed += instructions(board, os.path.join(folder, "program"))
+        late, found = sizes(board, folder, compiler)
+        missed += late
+        doubles |= found
+    print(f"goals missed: {missed}")
+    sys.exit("board: f64 in ours" if doubles else 0)
+
+
+if __name__ == "__main__":
+    main()
