@@ -1,7 +1,7 @@
 # Rust's side on a board, for bench/libm/board and bench/entries/board, which source this file. Debian's rustc, rust-src and
 # compiler_builtins, from which core is built for the boards, are downloaded and unpacked under target/ only.
 # Needs Debian 12's librust-libm-dev, gcc-arm-none-eabi, libnewlib-arm-none-eabi, qemu-user and libllvm14.
-kept=target/bench/libm_board
+kept=target/bench/rust_board
 rust=$kept/rust
 for package in librust-libm-dev gcc-arm-none-eabi libnewlib-arm-none-eabi qemu-user libllvm14; do
     dpkg -s "$package" >/dev/null 2>&1 || { echo "$0: Debian's $package is not installed" >&2; exit 1; }
