@@ -192,7 +192,7 @@ class Function:
     def built_where_wanted(self, name):
         used = self.naming(name)
         source = MOVE.fullmatch(self.lines[used[0]])[2]
-        if not self.own(source):
+        if not self.own(source) or any(self.reaches(use.line, use.line) for use in self.uses[source]):
             return False
         for i in reversed(used):
             del self.lines[i]

@@ -12,7 +12,7 @@ ghost use Prim.Native.Nat.{_≤_, _<_};
 ghost use lib.Dec.{ltb};
 ghost use Rattle.numbers.specs.Told.{choose};
 ghost use Rattle.numbers.specs.Door.{permits, when};
-ghost use Rattle.numbers.specs.Limits.{maskTo};
+ghost use Rattle.numbers.specs.Limits.{footLimit, maskTo};
 ghost use mathlib.Core.Bool.{false};
 ghost use Rattle.legs.specs.Legs.{points, lifted, marked, finitePoint, permittedPoint};
 ghost use Rattle.legs.specs.Legs.{finitePoints, permittedPoints, finiteFeet, permittedFeet};
@@ -100,6 +100,15 @@ pub fn point_permitted(limit: Limit, p: Point) -> bool
     door::is_permitted(limit, p.x) & door::is_permitted(limit, p.y) & door::is_permitted(limit, p.z)
 }
 
+// The same between a foot's own ends. They are constants here, so that the compiler can look at a magnitude once where it would compare
+// with each end: on a processor without floats a comparison is a call.
+fn point_in_limits(p: Point) -> bool
+    ensures { λ r. ⌜ r ≡ permittedPoint footLimit p ⌝ }
+{
+    let limit = numbers::limits::foot_limit();
+    door::is_permitted(limit, p.x) & door::is_permitted(limit, p.y) & door::is_permitted(limit, p.z)
+}
+
 // Whether all eighteen coordinates are finite.
 pub fn points_finite(p: Points) -> bool
     ensures { λ r. ⌜ r ≡ finitePoints p ⌝ }
@@ -145,6 +154,18 @@ pub fn feet_permitted(limit: Limit, f: Feet) -> bool
         & point_permitted(limit, f.right_middle.point)
         & point_permitted(limit, f.left_rear.point)
         & point_permitted(limit, f.right_rear.point)
+}
+
+// Whether six feet are between their ends, by the constants.
+pub fn feet_in_limits(f: Feet) -> bool
+    ensures { λ r. ⌜ r ≡ permittedFeet footLimit f ⌝ }
+{
+    point_in_limits(f.left_front.point)
+        & point_in_limits(f.right_front.point)
+        & point_in_limits(f.left_middle.point)
+        & point_in_limits(f.right_middle.point)
+        & point_in_limits(f.left_rear.point)
+        & point_in_limits(f.right_rear.point)
 }
 
 // 4 for a mask that names more than six legs, else 0.

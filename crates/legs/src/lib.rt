@@ -120,8 +120,7 @@ pub fn from_legs(legs: [Foot; 6]) -> Feet
 pub fn merge_refused(a: Feet, b: Feet, mask: u32) -> u32
     ensures { λ r. ⌜ r ≡ mergeRefusal a b mask ⌝ }
 {
-    let limit = numbers::limits::foot_limit();
-    if core::feet_permitted(limit, a) & core::feet_permitted(limit, b) {
+    if core::feet_in_limits(a) & core::feet_in_limits(b) {
         core::mask_refused(mask)
     } else {
         door::outside(core::feet_finite(a) & core::feet_finite(b))
@@ -144,8 +143,7 @@ pub fn merge_with(a: Feet, b: Feet, mask: u32) -> Planned
 pub fn selected_refused(feet: Feet, mask: u32) -> u32
     ensures { λ r. ⌜ r ≡ selectRefusal feet mask ⌝ }
 {
-    let limit = numbers::limits::foot_limit();
-    if core::feet_permitted(limit, feet) {
+    if core::feet_in_limits(feet) {
         core::mask_refused(mask)
     } else {
         door::outside(core::feet_finite(feet))

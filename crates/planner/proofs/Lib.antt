@@ -1,4 +1,5 @@
 mod Bits
+mod Halves
 mod Together
 pub mod Within
 pub mod Marks

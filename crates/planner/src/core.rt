@@ -157,7 +157,7 @@ pub fn step_with_relaxed_transformation(
         in_row(lifted_tripod, relaxed),
     );
     let rotation = command.rotation / 2.0;
-    let correcting_rotation = average + -command.rotation / 2.0;
+    let correcting_rotation = average + -rotation;
     let lrl = commands::core::is_lrl(lifted_tripod);
     let first = turns::turn(chosen(lrl, rotation, correcting_rotation));
     let second = turns::turn(chosen(lrl, correcting_rotation, rotation));

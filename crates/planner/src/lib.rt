@@ -16,9 +16,8 @@ pub mod turns;
 pub fn plan_refused(start: Feet, relaxed: Feet, command: MoveCommand) -> u32
     ensures { λ r. ⌜ r ≡ planRefusal start relaxed command ⌝ }
 {
-    let limit = numbers::limits::foot_limit();
-    let permitted = legs::core::feet_permitted(limit, start)
-        & legs::core::feet_permitted(limit, relaxed)
+    let permitted = legs::core::feet_in_limits(start)
+        & legs::core::feet_in_limits(relaxed)
         & commands::core::command_permitted(command);
     if permitted {
         door::unless(commands::core::is_period(command.step_time), 3)

@@ -2,7 +2,7 @@
 use legs::Point;
 use legs::Points;
 ghost use mathlib.Core.Path.{_≡_};
-ghost use Rattle.planner.specs.Turns.{turn, dot, applied, isZero, rotationBetween};
+ghost use Rattle.planner.specs.Turns.{turn, applied, isZero, rotationBetween};
 ghost use Rattle.planner.specs.How.{appliedFeet};
 
 // The matrix of a turn by this angle.
@@ -15,21 +15,14 @@ pub fn turn(angle: f32) -> [[f32; 3]; 3]
     [[c, 0.0 - s, 0.0], [s, c, 0.0], [0.0, 0.0, 1.0]]
 }
 
-// A row's product with a point, summed left to right.
-fn dotted(row: [f32; 3], p: Point) -> f32
-    ensures { λ r. ⌜ r ≡ dot row p ⌝ }
-{
-    row[0] * p.x + row[1] * p.y + row[2] * p.z
-}
-
-// The point turned.
+// The point turned: each row's product with it, summed left to right.
 pub fn applied(m: [[f32; 3]; 3], p: Point) -> Point
     ensures { λ r. ⌜ r ≡ applied m p ⌝ }
 {
     Point {
-        x: dotted(m[0], p),
-        y: dotted(m[1], p),
-        z: dotted(m[2], p),
+        x: m[0][0] * p.x + m[0][1] * p.y + m[0][2] * p.z,
+        y: m[1][0] * p.x + m[1][1] * p.y + m[1][2] * p.z,
+        z: m[2][0] * p.x + m[2][1] * p.y + m[2][2] * p.z,
     }
 }
 
@@ -51,14 +44,16 @@ pub fn applied_feet(lrl: [[f32; 3]; 3], rlr: [[f32; 3]; 3], feet: Points) -> Poi
 fn is_zero(v: Point) -> bool
     ensures { λ r. ⌜ r ≡ isZero v ⌝ }
 {
-    (v.x == 0.0) & (v.y == 0.0)
+    if v.x == 0.0 { v.y == 0.0 } else { false }
 }
 
 // The angle from the first vector to the second, in x and y, as they stand; 0 where either is zero.
 pub fn rotation_between(a: Point, b: Point) -> f32
     ensures { λ r. ⌜ r ≡ rotationBetween a b ⌝ }
 {
-    if is_zero(a) | is_zero(b) {
+    if is_zero(a) {
+        0.0
+    } else if is_zero(b) {
         0.0
     } else {
         arcs::core::atan2(a.x * b.y - a.y * b.x, a.x * b.x + a.y * b.y)

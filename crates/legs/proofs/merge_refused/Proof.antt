@@ -12,9 +12,9 @@ returns : tie.Need-returns
 unfolding mergeRefusal
 returns c =
     let asked = c .before .before in
-    let a = asked .before .before .before .args in
+    let a = asked .before .before .args in
     let p =
-    simp (asked .feet-permitted2 .ensures, asked .before .feet-permitted .ensures, asked .before .before .foot-limit .ensures)
+    simp (asked .feet-in-limits2 .ensures, asked .before .feet-in-limits .ensures)
     at (c .before .if1 .taken) in
     simp (c .mask-refused .ensures) (let-through-to _ (two-feet (a .a) (a .b) p) p)
 
@@ -22,9 +22,9 @@ returns-2 : tie.Need-returns-2
 unfolding mergeRefusal
 returns-2 c =
     let asked = c .before .before .before .before in
-    let a = asked .before .before .before .args in
+    let a = asked .before .before .args in
     let p =
-    simp (asked .feet-permitted2 .ensures, asked .before .feet-permitted .ensures, asked .before .before .foot-limit .ensures)
+    simp (asked .feet-in-limits2 .ensures, asked .before .feet-in-limits .ensures)
     at (c .before .before .before .if1 .left) in
     simp (c .outside .ensures, c .before .feet-finite2 .ensures, c .before .before .feet-finite .ensures)
     (kept-out-of (finiteFeet (a .a) && finiteFeet (a .b)) (permittedFeet footLimit (a .a) && permittedFeet footLimit (a .b)) _ p)
@@ -33,7 +33,6 @@ pub merge-refused-spec : {M : Type 1} → statement M
 merge-refused-spec =
     tie.close
     (tie.spec
-    (λ _ _. tt)
     (λ _ _. tt)
     (λ _ _. tt)
     (λ _ _. tt)

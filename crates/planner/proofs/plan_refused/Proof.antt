@@ -16,13 +16,12 @@ returns : tie.Need-returns
 unfolding planRefusal
 returns c =
     let d = c .before .before .before in
-    let a = d .before .before .before .before .args in
+    let a = d .before .before .before .args in
     let p =
     simp (
       d .command-permitted .ensures,
-      d .before .feet-permitted2 .ensures,
-      d .before .before .feet-permitted .ensures,
-      d .before .before .before .foot-limit .ensures,
+      d .before .feet-in-limits2 .ensures,
+      d .before .before .feet-in-limits .ensures,
     )
     at (c .before .before .if1 .taken)
     in
@@ -35,13 +34,12 @@ returns-2 : tie.Need-returns-2
 unfolding planRefusal
 returns-2 c =
     let d = c .before .before .before .before .before in
-    let a = d .before .before .before .before .args in
+    let a = d .before .before .before .args in
     let p =
     simp (
       d .command-permitted .ensures,
-      d .before .feet-permitted2 .ensures,
-      d .before .before .feet-permitted .ensures,
-      d .before .before .before .foot-limit .ensures,
+      d .before .feet-in-limits2 .ensures,
+      d .before .before .feet-in-limits .ensures,
     )
     at (c .before .before .before .before .if1 .left)
     in
@@ -61,6 +59,6 @@ pub plan-refused-spec : {M : Type 1} → statement M
 plan-refused-spec =
     tie.close
     (tie.spec
-    (λ _ _. tt) (λ _ _. tt) (λ _ _. tt) (λ _ _. tt) (λ _ _. tt) (λ _ _. tt) (λ _ _. tt) (λ _ _. tt) (λ _ _. tt) (λ _ _. tt)
+    (λ _ _. tt) (λ _ _. tt) (λ _ _. tt) (λ _ _. tt) (λ _ _. tt) (λ _ _. tt) (λ _ _. tt) (λ _ _. tt) (λ _ _. tt)
     returns
     returns-2)

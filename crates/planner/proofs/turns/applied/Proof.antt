@@ -1,12 +1,19 @@
--- `planner::turns::applied` meets its contract, row by row.
-use Rattle.planner.specs.Turns.{applied}
+-- `planner::turns::applied` meets its contract, product by product.
+use mathlib.Core.Path.{refl}
 use borrow.Author.Needs.{needs}
+use Rattle.planner.specs.Turns.{dot, applied}
 use Rattle.planner.proofs.turns.applied.Statement.{statement}
 use Rattle.planner.proofs.turns.applied.Tie as tie
 
 returns : tie.Need-returns
-unfolding applied
-returns c = simp (c .dotted3 .ensures, c .before .before .dotted2 .ensures, c .before .before .before .before .dotted .ensures)
+unfolding applied dot
+returns c = refl
 
 pub applied-spec : {M : Type 1} → statement M
-applied-spec = tie.close (tie.spec (λ c. search needs) (λ _ _. tt) (λ c. search needs) (λ _ _. tt) (λ c. search needs) (λ _ _. tt) returns)
+applied-spec =
+    tie.close
+    (tie.spec
+    (λ c. search needs) (λ c. search needs) (λ c. search needs) (λ c. search needs) (λ c. search needs) (λ c. search needs)
+    (λ c. search needs) (λ c. search needs) (λ c. search needs) (λ c. search needs) (λ c. search needs) (λ c. search needs)
+    (λ c. search needs) (λ c. search needs) (λ c. search needs) (λ c. search needs) (λ c. search needs) (λ c. search needs)
+    returns)
