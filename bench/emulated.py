@@ -35,9 +35,15 @@ class Blocks:
         return self.known[where]
 
 
-def run(program, calls, names):
+def functions(program):
+    """Address and name of every function, by address; of a routine's many names one."""
+    lines = (line.split() for line in tool("nm", "-C", program).splitlines())
+    return sorted({int(f[0], 16) & ~1: " ".join(f[2:]) for f in lines if f[1] in "tTW" and not f[2].startswith("$")}.items())
+
+
+def run(program, calls, names, by_block=None):
     """What the program writes for these bytes, and for each call of one of the named functions the instructions between its entry and the
-    return to `make_calls`."""
+    return to `make_calls`. Those of each block are added to `by_block`, where there is one, under the function called."""
     at = symbols(program)
     begin, size = at["make_calls"]
     entries = {at[name][0] for name in names}
@@ -55,11 +61,14 @@ def run(program, calls, names):
                 pc, instructions = block
                 if begin <= pc < begin + size:
                     inside = False
-                elif inside:
+                    continue
+                if inside:
                     counts[-1] += instructions
                 elif pc in entries:
-                    inside = True
+                    inside, entry = True, pc
                     counts.append(instructions)
+                if inside and by_block is not None:
+                    by_block[entry][pc] += instructions
         if emulator.returncode:
             sys.exit(f"{program} ended with {emulator.returncode} after {len(counts)} calls")
         back.seek(0)

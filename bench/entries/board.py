@@ -1,11 +1,14 @@
 #!/usr/bin/env python3
-"""board.py LEVEL NAME FOLDER WORDS [NAME FOLDER WORDS ..]
+"""board.py LEVEL ENTRY NAME FOLDER WORDS [NAME FOLDER WORDS ..]
 Whole entries on a board, ours and the plain Rust reading's, from what bench/entries/board made in FOLDER. The program runs in the emulator
 qemu-arm, one instruction at a time, on inputs of the permitted range as bench/rust/side_by_side.rs draws them; every answer of ours is
 judged by Rust's, as document 01 says (bench/judge.py). A line an entry: the mean instructions from the entry to the return, of a walk those
 of one of its steps, the ratio, its goal. Then each entry linked alone: bytes of code and tables, of those what the libraries of the
 compiler gave, and the deepest stack; and what of ours works on f64. The last line counts the goals missed. Status 1 where an answer is wrong
-or ours has f64. WORDS are the compiler's, for linking."""
+or ours has f64. WORDS are the compiler's, for linking. Where ENTRY is not empty, only the entry of that title or name, with
+the instructions of each function and the frames of the deepest stack, of both sides."""
+import bisect
+import collections
 import os
 import random
 import struct
@@ -217,7 +220,7 @@ def get():
 
 
 class Entry:
-    """`functions` are its names without the side, as the numbers in board.rs count them, `result` what a call answers."""
+    """`name` is its function's without the side, `make` makes an input, `held` judges an answer, `result` is what a call tells."""
 
     def __init__(self, title, name, make, held, goal, result=0, inputs=INPUTS):
         self.title, self.name, self.make, self.held, self.goal, self.result, self.inputs = title, name, make, held, goal, result, inputs
@@ -259,73 +262,103 @@ def archive(folder, name, side):
     return os.path.join(folder, "board.a" if side == "Rust" else "c_host.a" if name == "conduct" else "probe.a")
 
 
-def instructions(board, program):
-    """Prints the lines of one program; the number of goals missed."""
-    made = [(e, given) for e in ENTRIES for given in (e.make() for _ in range(e.inputs))]
+def called(program, made, by_block=None):
+    """For each input of an entry the answers of both sides and their instructions."""
     calls = [given.call(2 * FUNCTIONS.index(e.name) + 1 + side) for e, given in made for side in range(2)]
     names = [symbol(name, side) for name in FUNCTIONS for side in SIDES]
     assert sum(map(len, calls)) < ROOM - CALL.size
-    back, counts = emulated.run(program, b"".join(calls).ljust(ROOM, b"\0"), names)
+    back, counts = emulated.run(program, b"".join(calls).ljust(ROOM, b"\0"), names, by_block)
     if len(counts) != len(calls):
         sys.exit(f"board: {program} made {len(counts)} of {len(calls)} calls")
-    spent, steps, at = {e: [0, 0] for e in ENTRIES}, {e: 0 for e in ENTRIES}, 0
-    for k, (e, given) in enumerate(made):
-        ours, rust = Told(back, at), Told(back, at + len(calls[2 * k]))
-        at += len(calls[2 * k]) + len(calls[2 * k + 1])
+    told, at = [], 0
+    for call in calls:
+        told.append(Told(back, at))
+        at += len(call)
+    return zip(told[::2], told[1::2], counts[::2], counts[1::2])
+
+
+def measured(e, program, made, by_block=None):
+    """The instructions of one call of an entry, or of a step of its walks, on both sides; every answer is judged."""
+    spent, steps = [0, 0], 0
+    for given, (ours, rust, *counts) in zip(made, called(program, [(e, given) for given in made], by_block)):
         wrong = e.held(given, ours, rust, e.result)
         if wrong:
             sys.exit(f"board: {program}: {e.title}, input {given.row.hex()}: {wrong}; results {ours.result}, {rust.result}")
-        spent[e] = [a + b for a, b in zip(spent[e], counts[2 * k:2 * k + 2])]
-        steps[e] += ours.len if e.held is counted else 1
-    missed = 0
+        spent = [a + b for a, b in zip(spent, counts)]
+        steps += ours.len if e.held is counted else 1
+    return [n / steps for n in spent], steps
+
+
+def by_function(program, by_block, steps):
+    """Instructions of each function, the most first."""
+    functions, spent = emulated.functions(program), collections.Counter()
+    starts = [at for at, _ in functions]
+    for pc, count in by_block.items():
+        spent[functions[bisect.bisect(starts, pc) - 1][1]] += count
+    return ", ".join(f"{name} {count / steps:.0f}" for name, count in spent.most_common() if count >= steps)
+
+
+def instructions(board, program, entries, each):
+    """Prints a line an entry, with `each` the functions of both sides; the number of goals missed."""
+    missed, at = 0, emulated.symbols(program)
     print(f"{board:27} {'ours':>9} {'Rust':>9} {'ratio':>6} {'goal':>5}")
-    for e in ENTRIES:
-        ours, rust = (n / steps[e] for n in spent[e])
+    for e in entries:
+        pick.seed(e.title)
+        by_block = collections.defaultdict(collections.Counter) if each else None
+        (ours, rust), steps = measured(e, program, [e.make() for _ in range(e.inputs)], by_block)
         goal = e.goal.get(board)
         late = goal is not None and ours > goal * rust
         missed += late
-        said = f"{goal:5.1f}  {'missed' if late else 'met'}" if goal else ""
-        print(f"{e.title:27} {ours:9.1f} {rust:9.1f} {ours / rust:6.2f} {said}", flush=True)
+        said = f" {goal:5.1f}  {'missed' if late else 'met'}" if goal else ""
+        print(f"{e.title:27} {ours:9.1f} {rust:9.1f} {ours / rust:6.2f}{said}", flush=True)
+        for side in SIDES if each else []:
+            print(f"  {side}: " + by_function(program, by_block[at[symbol(e.name, side)][0]], steps))
     return missed
 
 
-def sizes(board, folder, words):
-    """Prints each entry linked alone; the number of goals missed, and whether ours has f64."""
-    missed, found = 0, []
-    print(f"{board + ', linked alone':27} {'ours: code':>10} {'tables':>7} {'outside':>8} {'stack':>6} {'Rust: code':>11} {'tables':>7} {'outside':>8} {'stack':>6}")
-    deepest = []
+def alone(folder, name, side, words):
+    """An entry linked alone: code, tables, bytes from outside, the frames of its deepest stack, what works on f64."""
+    root, library = symbol(name, side), archive(folder, name, side)
     with tempfile.TemporaryDirectory() as scratch:
-        for name in FUNCTIONS:
-            line = f"{name:27}"
-            for side, width in zip(SIDES, (10, 11)):
-                root, library = symbol(name, side), archive(folder, name, side)
-                elf = linked.link(words, library, os.path.join(scratch, root), [root], ["-lc", "-lgcc"])
-                (code, tables), outside = linked.bytes_of(elf), sum(linked.from_outside(elf, library).values())
-                chain = linked.stacks(elf, [root])[root]
-                depth = sum(size for _, size in chain)
-                line += f" {code:{width}} {tables:7} {outside:8} {depth:6}"
-                if side == "ours":
-                    deepest.append((depth, chain))
-                    found += [f"{name}: {what}" for what in sum(linked.doubles(elf), [])]
-            late = deepest[-1][0] > STACK
+        elf = linked.link(words, library, os.path.join(scratch, root), [root], ["-lc", "-lgcc"])
+        outside = sum(linked.from_outside(elf, library).values())
+        chain = [(linked.tool("c++filt", "-i", name).strip(), size) for name, size in linked.stacks(elf, [root])[root]]
+        return *linked.bytes_of(elf), outside, chain, sum(linked.doubles(elf), [])
+
+
+def sizes(board, folder, words, names, each):
+    """Prints each entry linked alone, with `each` the frames of both sides; the number of goals missed, and whether ours has f64."""
+    missed, found = 0, []
+    print(f"{board + ', linked alone':27}" + 2 * f" {'code':>8} {'tables':>7} {'outside':>8} {'stack':>6}")
+    for name in names:
+        line, frames = f"{name:27}", []
+        for side in SIDES:
+            code, tables, outside, chain, doubles = alone(folder, name, side, words)
+            depth = sum(size for _, size in chain)
+            line += f" {code:8} {tables:7} {outside:8} {depth:6}"
+            late = side == "ours" and depth > STACK
             missed += late
-            print(line + (f"  stack goal {STACK} missed" if late else ""), flush=True)
-    for depth, chain in sorted(deepest, reverse=True)[:4]:
-        print(f"  ours, {depth} bytes of stack: " + ", ".join(f"{name} {size}" for name, size in chain))
-    print(f"  f64 in ours: {'; '.join(found) or 'none'}")
+            found += [f"{name}: {what}" for what in doubles if side == "ours"]
+            if late or each:
+                frames.append(f"  {side}, {depth} bytes of stack{', goal missed' * late}: " + ", ".join(f"{f} {n}" for f, n in chain))
+        print("\n".join([line] + frames), flush=True)
+    print(f"f64 in ours: {'; '.join(found) or 'none'}")
     return missed, bool(found)
 
 
 def main():
     words = sys.argv[1:]
-    if len(words) < 4 or len(words) % 3 != 1:
+    if len(words) < 5 or len(words) % 3 != 2:
         sys.exit(__doc__)
-    level, missed, doubles = words[0], 0, False
-    print(f"instructions of a call, both sides at {level}; goals: of Rust's instructions; at most {STACK} bytes of stack")
-    for board, folder, compiler in zip(words[1::3], words[2::3], words[3::3]):
-        pick.seed(1)
-        missed += instructions(board, os.path.join(folder, "program"))
-        late, found = sizes(board, folder, compiler)
+    level, chosen, *boards = words
+    entries = [e for e in ENTRIES if chosen in (e.title, e.name, "")]
+    if not entries:
+        sys.exit(f"board: there is no entry '{chosen}'; there are: {'; '.join(e.title for e in ENTRIES)}")
+    names, missed, doubles = [name for name in FUNCTIONS if name in [e.name for e in entries]], 0, False
+    print(f"instructions, bytes and stack at {level}, ours and Rust's; goals: of Rust's instructions, and {STACK} bytes of stack")
+    for board, folder, compiler in zip(boards[::3], boards[1::3], boards[2::3]):
+        missed += instructions(board, os.path.join(folder, "program"), entries, chosen)
+        late, found = sizes(board, folder, compiler, names, chosen)
         missed += late
         doubles |= found
     print(f"goals missed: {missed}")
