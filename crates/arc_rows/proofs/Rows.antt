@@ -29,7 +29,7 @@ pub record Direction (k a b : ℕ) : Type 0 where
   pub right : 128 * b ≤ k * a + 256 * D
   pub norm : 2 ^ 44 * D ≤ a * (16384 + k * k)
 
-le-by : {x y x' y' : ℕ} → x ≡ x' → y ≡ y' → x ≤ y → x' ≤ y'
+pub le-by : {x y x' y' : ℕ} → x ≡ x' → y ≡ y' → x ≤ y → x' ≤ y'
 le-by e f h = subst₂ (λ (i j : ℕ). i ≤ j) e f h
 
 -- ---- the value of the lists of the test
@@ -39,13 +39,13 @@ constant A L w = ev-add (A ∷ []) (big L) w ∙ ap (λ (x : ℕ). A + w * 0 + x
     go : (x : ℕ) → A + w * 0 + 2 ^ 91 * x ≡ A + 2 ^ 91 * x
     go x = omega arith
 
-line : (A B : ℕ) (L : List ℕ) (w : ℕ) → eval (addP (A ∷ B ∷ []) (big L)) w ≡ A + w * B + 2 ^ 91 * eval L w
+pub line : (A B : ℕ) (L : List ℕ) (w : ℕ) → eval (addP (A ∷ B ∷ []) (big L)) w ≡ A + w * B + 2 ^ 91 * eval L w
 line A B L w = ev-add (A ∷ B ∷ []) (big L) w ∙ ap (λ (x : ℕ). A + w * (B + w * 0) + x) (ev-scale (2 ^ 91) L w) ∙ go (eval L w)
   where
     go : (x : ℕ) → A + w * (B + w * 0) + 2 ^ 91 * x ≡ A + w * B + 2 ^ 91 * x
     go x = omega arith
 
-square : (A B C : ℕ) (L : List ℕ) (w : ℕ) → eval (addP (A ∷ B ∷ C ∷ []) (big L)) w ≡ A + w * B + w * w * C + 2 ^ 91 * eval L w
+pub square : (A B C : ℕ) (L : List ℕ) (w : ℕ) → eval (addP (A ∷ B ∷ C ∷ []) (big L)) w ≡ A + w * B + w * w * C + 2 ^ 91 * eval L w
 square A B C L w = ev-add (A ∷ B ∷ C ∷ []) (big L) w ∙ ap (λ (x : ℕ). A + w * (B + w * (C + w * 0)) + x) (ev-scale (2 ^ 91) L w)
     ∙ go (eval L w)
   where

@@ -1,1 +1,2 @@
 pub mod ArcTangent
+pub mod ArcSine

@@ -3,7 +3,7 @@ use mathlib.Core.Path.{_≡_, refl, sym, ap, ap₂, _∙_, subst, subst₂}
 use mathlib.Core.Bool.{Bool, true, false, cond, _&&_, true≢false}
 use Prim.Native.Nat.{ℕ, _≤_, _<_}
 use native.Mathlib.Omega.{arith}
-use lib.Dec.{T, ltb}
+use lib.Dec.{T, ltb, leb, leb→le, le→leb}
 use lib.Ieee.{Float, binary32, units, fits, ofBits, toBits}
 use lib.Ieee.Exact.{HasValue}
 use lib.Ieee.Fits.{and-i, and-l, and-r}
@@ -14,16 +14,16 @@ use Rattle.units.specs.Units.{mag, unity}
 use Rattle.units.specs.Patterns.{val, signSet, bare}
 use Rattle.units.proofs.Values.{mag-is}
 use Rattle.units.proofs.Patterns.{bits-val}
-use Rattle.units.proofs.PatternOrder.{val-lt, val-le, val-ltb}
-use Rattle.units.proofs.Bits.{mag-bare}
+use Rattle.units.proofs.PatternOrder.{val-lt, val-le, val-le-back, val-ltb}
+use Rattle.units.proofs.Bits.{mag-bare, bare-lt}
 use Rattle.arcs.specs.How.{Sorted, angle, smaller, larger, ratio, angleOf, inRadians, side, insideArcCosine, arcCosine, finiteAtan2}
-use Rattle.arcs.specs.How.{atan2}
+use Rattle.arcs.specs.How.{Proper, digits, upright, uprightMost, atan2}
 use Rattle.arcs.specs.Wedges.{signBit, ArcCosineOf, Atan2Of}
 use Rattle.arcs.proofs.SignBits.{sign-bits}
 use Rattle.arcs.proofs.Ratios.{smaller-le, larger-x, larger-y}
-use Rattle.arcs.proofs.ArcBand.{permitted-finite, side-finite}
+use Rattle.arcs.proofs.ArcBand.{permitted-finite, at-most-one, side-finite, few-digits}
 use Rattle.arcs.proofs.Atan2Band.{zero-angle}
-use Rattle.arcs.proofs.Bands.{arc-cosine-band, atan2-band}
+use Rattle.arcs.proofs.Bands.{chosen, arc-cosine-band, atan2-band}
 
 -- ---- atan2: two sides, sorted
 sorted-of : (u v : Float) (m n : ℕ) → HasValue u false m unity → HasValue v false n unity → m ≤ n → 0 < n → Sorted u v
@@ -107,9 +107,58 @@ module _ (y x : Float) (fy : T (fits binary32 y)) (fx : T (fits binary32 x)) (h 
 pub root-finite : (q s : Float) → T (fits binary32 q) → T (permits arcCosineArgument q) → s ≡ side q → T (finite s && finite q)
 root-finite q s f h e = and-i (finite s) (finite q) (subst (λ (z : Float). T (finite z)) (sym e) (side-finite q f h)) (permitted-finite q h)
 
-pub arc-is : (q s r : Float) → s ≡ side q → r ≡ finiteAtan2 s q → r ≡ insideArcCosine q
-unfolding insideArcCosine
-arc-is q s r e k = k ∙ ap (λ (z : Float). finiteAtan2 z q) e
+not-chosen : (b : Bool) (x y : Float) → (T b → ⊥) → choose b x y ≡ y
+not-chosen true x y n = absurd (n tt)
+not-chosen false x y n = refl
+
+-- i is q's pattern without its sign, p the number of that pattern
+module _ (q : Float) (f : T (fits binary32 q)) (h : T (permits arcCosineArgument q)) where
+  abbrev i : ℕ
+  i = bare (toBits binary32 q)
+
+  abbrev p : Float
+  p = ofBits binary32 i
+
+  i-lt : i < 2139095040
+  i-lt = bare-lt q f (permitted-finite q h)
+
+  pub pattern-mag : mag p ≡ mag q
+  pattern-mag = bits-mag i i-lt ∙ sym (mag-bare q f (permitted-finite q h))
+
+  pub pattern-proper : Proper p
+  pattern-proper = record {
+    has = subst (λ (n : ℕ). HasValue p false n unity) (sym (bits-mag i i-lt)) (bits-val i i-lt);
+    most = subst (λ (n : ℕ). n ≤ unity) (sym pattern-mag) (at-most-one q f h);
+  }
+
+  -- 1060372480 is the pattern of 45/64
+  pub pattern-few : i ≤ 1060372480 → mag q ≤ uprightMost
+  pattern-few l = subst (λ (n : ℕ). n ≤ uprightMost) (sym (mag-bare q f (permitted-finite q h))) (val-le i 1060372480 l)
+
+  pub upright-lt : (w : ℕ) → i ≤ 1060372480 → w ≡ digits (mag p) → w < 23855104
+  upright-lt w l e = subst (λ (n : ℕ). n < 23855104) (sym (e ∙ ap digits pattern-mag)) (few-digits (mag q) (pattern-few l))
+
+  abbrev short : Float
+  short = inRadians false (upright (signBit q) (digits (mag q)))
+
+  pub upright-is : (w a : ℕ) (r : Float) → i ≤ 1060372480 → w ≡ digits (mag p) → a ≡ upright (signSet (toBits binary32 q)) w
+      → r ≡ inRadians false a → r ≡ insideArcCosine q
+  unfolding insideArcCosine
+  upright-is w a r l ew ea er =
+      er ∙ ap (inRadians false) (ea ∙ ap₂ upright (sym (sign-bits q f (permitted-finite q h))) (ew ∙ ap digits pattern-mag))
+      ∙ sym (chosen (leb (mag q) uprightMost) short (finiteAtan2 (side q) q) (le→leb (mag q) uprightMost (pattern-few l)))
+
+  pub root-is : (s r : Float) → 1060372480 < i → s ≡ side q → r ≡ finiteAtan2 s q → r ≡ insideArcCosine q
+  unfolding insideArcCosine
+  root-is s r l e k =
+      k ∙ ap (λ (z : Float). finiteAtan2 z q) e
+      ∙ sym (not-chosen (leb (mag q) uprightMost) short (finiteAtan2 (side q) q) (λ t. no l (back (leb→le (mag q) uprightMost t))))
+    where
+      no : 1060372480 < i → i ≤ 1060372480 → ⊥
+      no a b = omega arith
+
+      back : mag q ≤ uprightMost → i ≤ 1060372480
+      back g = val-le-back i 1060372480 (subst (λ (n : ℕ). n ≤ uprightMost) (mag-bare q f (permitted-finite q h)) g)
 
 pub either-le : (s : Bool) {a b k : ℕ} → a ≤ k → b ≤ k → cond s a b ≤ k
 either-le true h g = h

@@ -44,25 +44,25 @@ large U X Y R = elim (here-or-on (2 * larger X Y) U) [
     no v z a b c e f = omega arith
 
 -- ---- from the fact on whole numbers to the order of fractions
-above : (q u c c' d : ℕ) → c' * u + q * d ≤ c * u → q ÷ u ≼ difference c c' d
+pub above : (q u c c' d : ℕ) → c' * u + q * d ≤ c * u → q ÷ u ≼ difference c c' d
 above q u c c' d h = go
   where
     go : q * d + c' * u ≤ c * u + 0 * d
     go = omega arith
 
-under : (q u c c' d : ℕ) → c * u ≤ c' * u + q * d → difference c c' d ≼ q ÷ u
+pub under : (q u c c' d : ℕ) → c * u ≤ c' * u + q * d → difference c c' d ≼ q ÷ u
 under q u c c' d h = go
   where
     go : c * u + 0 * d ≤ q * d + c' * u
     go = omega arith
 
-above' : (q u c c' d : ℕ) → c' * u ≤ c * u + q * d → negative (q ÷ u) ≼ difference c c' d
+pub above' : (q u c c' d : ℕ) → c' * u ≤ c * u + q * d → negative (q ÷ u) ≼ difference c c' d
 above' q u c c' d h = go
   where
     go : 0 * d + c' * u ≤ c * u + q * d
     go = omega arith
 
-under' : (q u c c' d : ℕ) → c * u + q * d ≤ c' * u → difference c c' d ≼ negative (q ÷ u)
+pub under' : (q u c c' d : ℕ) → c * u + q * d ≤ c' * u → difference c c' d ≼ negative (q ÷ u)
 under' q u c c' d h = go
   where
     go : c * u + q * d ≤ 0 * d + c' * u

@@ -16,7 +16,7 @@ use Rattle.arcs.specs.Wedges.{e, ArcCosine, ArcCosineOf, Atan2, Atan2Of}
 use Rattle.arcs.proofs.ArcBand.{arc-rule}
 use Rattle.arcs.proofs.Atan2Band.{atan2-rule}
 
-chosen : (b : Bool) (x y : Float) → T b → choose b x y ≡ x
+pub chosen : (b : Bool) (x y : Float) → T b → choose b x y ≡ x
 chosen true x y t = refl
 chosen false x y t = absurd t
 

@@ -4,7 +4,7 @@ use mathlib.Core.Bool.{Bool, true, false, _&&_}
 use Prim.Native.Nat.{ℕ, _*_, _^_, _≤_}
 use native.Mathlib.Nat.{le-of-eq, le-trans, add-zero, zero-add, mul-le-mul-right}
 use native.Mathlib.Omega.{arith}
-use lib.Dec.{T}
+use lib.Dec.{T, leb, leb→le}
 use lib.Ieee.{Float, binary32, fits}
 use Rattle.numbers.specs.Door.{finite, permits}
 use Rattle.numbers.specs.Limits.{arcCosineArgument}
@@ -12,10 +12,12 @@ use Rattle.numbers.specs.Told.{choose}
 use Rattle.units.specs.Units.{mag}
 use Rattle.units.proofs.Values.{plus-part, minus-part}
 use Rattle.units.proofs.Bounds.{Result}
-use Rattle.arcs.specs.How.{inRadians, finiteAtan2, atan2, angleOf, side, insideArcCosine, arcCosine}
+use Rattle.arcs.specs.How.{inRadians, finiteAtan2, atan2, angleOf, side, digits, upright, uprightMost, insideArcCosine, arcCosine}
 use Rattle.arcs.specs.Wedges.{signBit}
 use Rattle.arcs.proofs.Results.{radians-value, radians-fits}
 use Rattle.arcs.proofs.Atan2Band.{few, any-le}
+use Rattle.arcs.proofs.Upright.{upright-le}
+use Rattle.arcs.proofs.ArcBand.{few-digits}
 
 -- P in units
 abbrev pub pi-units : ℕ
@@ -61,4 +63,10 @@ atan2-bounds y x = or-nought (finite y && finite x) (finiteAtan2 y x) (any-bound
 
 pub arc-cosine-bounds : (q : Float) → AtMostP (arcCosine q)
 unfolding arcCosine insideArcCosine
-arc-cosine-bounds q = or-nought (permits arcCosineArgument q) (insideArcCosine q) (any-bounds (side q) q)
+arc-cosine-bounds q =
+    or-nought (permits arcCosineArgument q) (insideArcCosine q) (go (leb (mag q) uprightMost) (leb→le (mag q) uprightMost))
+  where
+    go : (b : Bool) → (T b → mag q ≤ uprightMost)
+        → AtMostP (choose b (inRadians false (upright (signBit q) (digits (mag q)))) (finiteAtan2 (side q) q))
+    go true h = at-most false (upright (signBit q) (digits (mag q))) (upright-le (signBit q) (digits (mag q)) (few-digits (mag q) (h tt)))
+    go false h = any-bounds (side q) q

@@ -8,6 +8,7 @@ mod PastOne
 mod SignBits
 mod Ratios
 mod Carry
+mod Follows
 mod Octants
 mod Transfer
 mod RootNear
@@ -17,11 +18,13 @@ mod Places
 mod Turn
 mod Atan2Rule
 mod ArcRule
+mod Upright
 mod Results
 mod Atan2Band
 mod ArcBand
 mod Ranges
 mod Tabled
+mod SinesTabled
 pub mod Bands
 pub mod Bounds
 pub mod Examples

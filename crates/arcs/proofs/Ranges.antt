@@ -1,11 +1,12 @@
 -- What the functions on whole numbers ask: that nothing overflows, and what each choice answers. Assumes nothing.
 use Prim.Native.Nat.{ℕ, _+_, _*_, _-_, _/_, _%_, _≤_}
-use mathlib.Core.Path.{_≡_, sym, ap, _∙_, subst}
+use mathlib.Core.Path.{_≡_, sym, ap, ap₂, _∙_, subst}
 use mathlib.Core.Bool.{Bool, true, false, cond}
 use native.Mathlib.Nat.{mul-le-mul, mul-le-mul-left, div-le-of-le-mul}
 use native.Mathlib.Omega.{arith}
 use Rattle.arc_rows.specs.ArcTangent.{arcTangent}
-use Rattle.arcs.specs.How.{quarter, half, tableRow, lean, straight, bend, slope, sharp, wide, angle}
+use Rattle.arc_rows.specs.ArcSine.{angleAt, slopeAt, bendAt}
+use Rattle.arcs.specs.How.{quarter, half, tableRow, lean, straight, bend, slope, sharp, wide, angle, arcSine, upright}
 use Rattle.arcs.proofs.Rest.{close}
 
 -- ---- `slope`: l is the table's second number
@@ -74,4 +75,47 @@ angle-is steep left w t n e h k = (
 )
   where
     last : n ≤ half → (n + 128) / 256 ≤ 13176795
+    last g = omega arith
+
+-- ---- `arc_sine`: x is what w has past the row, b and c are the table's second and third numbers
+pub record Grown (x b c : ℕ) : Type 0 where
+  pub bend-le : x * c ≤ 17179869184
+  pub rate-le : b + x * c / 262144 ≤ 11865536
+  pub product : x * (b + x * c / 262144) ≤ 3110479069184
+  pub grown-le : x * (b + x * c / 262144) / 262144 ≤ 11865536
+
+pub grown : (x b c : ℕ) → x ≤ 262144 → b ≤ 11800000 → c ≤ 65535 → Grown x b c
+grown x b c h i j =
+    let k : c ≤ 65536 = omega arith in
+    let p : x * c ≤ 262144 * 65536 = mul-le-mul h k in
+    let q : b + x * c / 262144 ≤ 11865536 = omega arith in
+    let r : x * (b + x * c / 262144) ≤ 262144 * 11865536 = mul-le-mul h q in
+    record { bend-le = p; rate-le = q; product = r; grown-le = omega arith }
+
+-- what the function gives, from the row's three numbers
+abbrev pub sineBy : ℕ → ℕ → ℕ → ℕ → ℕ
+sineBy w a b c = a + w % 262144 * (b + w % 262144 * c / 262144) / 262144
+
+pub sine-is : (w a b c : ℕ) → a ≡ angleAt (tableRow w) → b ≡ slopeAt (tableRow w) → c ≡ bendAt (tableRow w) → a ≤ 838000000 → b ≤ 11800000
+    → c ≤ 65535 → (sineBy w a b c ≡ arcSine w) × (sineBy w a b c ≤ 850000000)
+unfolding arcSine
+sine-is w a b c ea eb ec la lb lc = (
+  ap₂ (λ (m n : ℕ). sineBy w m n c) ea eb ∙ ap (λ (m : ℕ). sineBy w (angleAt (tableRow w)) (slopeAt (tableRow w)) m) ec,
+  omega (arith, grown (w % 262144) b c (omega arith) lb lc .grown-le),
+)
+
+-- ---- `upright`
+pub beside-le : (left : Bool) (t : ℕ) → t ≤ 850000000 → cond left (quarter + t) (quarter - t) ≤ 2536629713
+beside-le true t h = omega arith
+beside-le false t h = omega arith
+
+pub upright-is : (left : Bool) (w t n : ℕ) → t ≡ arcSine w → t ≤ 850000000 → n ≡ cond left (quarter + t) (quarter - t)
+    → ((n + 128) / 256 ≡ upright left w) × ((n + 128) / 256 ≤ 13176795)
+unfolding upright
+upright-is left w t n e h k = (
+  ap (λ (m : ℕ). (m + 128) / 256) (k ∙ ap (λ (m : ℕ). cond left (quarter + m) (quarter - m)) e),
+  last (subst (λ (m : ℕ). m ≤ 2536629713) (sym k) (beside-le left t h)),
+)
+  where
+    last : n ≤ 2536629713 → (n + 128) / 256 ≤ 13176795
     last g = omega arith

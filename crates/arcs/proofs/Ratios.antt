@@ -1,4 +1,4 @@
--- The ratio of two sides: how near it is, and that an f32 division and a sum give it. Assumes nothing.
+-- The digits of a number up to 1, and the ratio of two sides: how near they are, and that an f32 sum and a division give them. Assumes nothing.
 use mathlib.Core.Path.{_≡_, refl, sym, ap, _∙_, subst}
 use mathlib.Core.Logic.{_⊎_, inl, inr}
 use mathlib.Core.Bool.{Bool, true, false, not, cond}
@@ -25,7 +25,7 @@ use Rattle.units.proofs.Bits.{mag-bare}
 use Rattle.units.proofs.Door.{finite-of, finite-no-nan}
 use Rattle.series.proofs.Order.{here-or-on}
 use Rattle.units.proofs.Values.{mag-is}
-use Rattle.arcs.specs.How.{Sorted, ratio, smaller, larger}
+use Rattle.arcs.specs.How.{Sorted, Proper, digits, ratio, smaller, larger}
 use Rattle.arcs.proofs.FirstOctant.{Ratio}
 use Rattle.arcs.proofs.PastOne.{past-one}
 use Rattle.arcs.proofs.SignBits.{sign-is, sign-bits}
@@ -76,41 +76,54 @@ sum-near n h = elim (here-or-on n unity) [
       low = le-of-mul-le-mul-right {m = x} {n = g + e} {k = u} (omega arith) p;
     }
 
+-- w is n in units of 2 ^ 124, but for 3
+pub record Digits (n w : ℕ) : Type 0 where
+  pub small : w ≤ 33554432
+  pub up : w * 2 ^ 124 ≤ n + 2 * 2 ^ 124
+  pub low : n ≤ w * 2 ^ 124 + 3 * 2 ^ 124
+
+pub digits-near : (n : ℕ) → n ≤ unity → Digits n (digits n)
+digits-near n h =
+    let z = rounded (unity + n) unity in
+    let s = sum-near n h in
+    record {
+      small =
+          div-le-of-le-mul (2 ^ 124) {n = 33554432}
+          (le-trans (rest z unity (le-trans (sum-high n h) (lit≤ {m = 2 ^ 150} {n = unity + unity} tt)))
+          (lit≤ {m = 2 ^ 149} {n = 2 ^ 124 * 33554432} tt));
+      up = above (digits n) z (2 ^ 124) (sum-low n) (div-mul-le-self (z - unity) (2 ^ 124)) (s .up);
+      low = below (digits n) z (2 ^ 124) (sum-low n) (le-of-lt (lt-div-mul-add {a = z - unity} (pow-pos 124))) (s .low);
+    }
+  where
+    rest : (z k : ℕ) → z ≤ k + k → z - k ≤ k
+    rest z k i = omega arith
+
+    above : (w z m : ℕ) → 33554432 * m ≤ z → w * m ≤ z - 33554432 * m → z ≤ 33554432 * m + n + 2 * m → w * m ≤ n + 2 * m
+    above w z m a j s = omega arith
+
+    below : (w z m : ℕ) → 33554432 * m ≤ z → z - 33554432 * m ≤ w * m + m → 33554432 * m + n ≤ z + 2 * m → n ≤ w * m + 3 * m
+    below w z m a j s = omega arith
+
 pub ratio-near : (u v : ℕ) → u ≤ v → 0 < v → Ratio u v (ratio u v)
 unfolding ratio
 ratio-near u v h p =
     let n = rounded u v in
-    let z = rounded (unity + n) unity in
     let d = div-abs u v p (twice p h) in
-    let s = sum-near n (at-most-one u v h p) in
+    let s = digits-near n (at-most-one u v h p) in
     record {
-      small =
-          div-le-of-le-mul (2 ^ 124) {n = 33554432}
-          (le-trans (rest z unity (le-trans (sum-high n (at-most-one u v h p)) (lit≤ {m = 2 ^ 150} {n = unity + unity} tt)))
-          (lit≤ {m = 2 ^ 149} {n = 2 ^ 124 * 33554432} tt));
-      up = above ((z - unity) / 2 ^ 124) n z (2 ^ 124) (pow-pos 124) (sum-low n) (div-mul-le-self (z - unity) (2 ^ 124)) (s .up) (d .up);
-      low =
-          below ((z - unity) / 2 ^ 124) n z (2 ^ 124) (pow-pos 124) (sum-low n) (le-of-lt (lt-div-mul-add {a = z - unity} (pow-pos 124)))
-          (s .low) (d .low);
+      small = s .small;
+      up = above (digits n) n (2 ^ 124) (pow-pos 124) (s .up) (d .up);
+      low = below (digits n) n (2 ^ 124) (pow-pos 124) (s .low) (d .low);
     }
   where
     twice : 0 < v → u ≤ v → u < 2 * v
     twice i j = omega arith
 
-    rest : (z k : ℕ) → z ≤ k + k → z - k ≤ k
-    rest z k i = omega arith
+    above : (w n m : ℕ) → 0 < m → w * m ≤ n + 2 * m → n * v ≤ u * (33554432 * m) + v * (2 * m) → w * v ≤ 33554432 * u + 4 * v
+    above w n m i q k = le-of-mul-le-mul-right {m = w * v} {n = 33554432 * u + 4 * v} {k = m} (omega (arith, mul-le-mul-right v q)) i
 
-    above : (w n z m : ℕ) → 0 < m → 33554432 * m ≤ z → w * m ≤ z - 33554432 * m → z ≤ 33554432 * m + n + 2 * m
-        → n * v ≤ u * (33554432 * m) + v * (2 * m) → w * v ≤ 33554432 * u + 4 * v
-    above w n z m i a j s k =
-        let q : w * m ≤ n + 2 * m = omega arith in
-        le-of-mul-le-mul-right {m = w * v} {n = 33554432 * u + 4 * v} {k = m} (omega (arith, mul-le-mul-right v q)) i
-
-    below : (w n z m : ℕ) → 0 < m → 33554432 * m ≤ z → z - 33554432 * m ≤ w * m + m → 33554432 * m + n ≤ z + 2 * m
-        → u * (33554432 * m) ≤ n * v + v * (2 * m) → 33554432 * u ≤ w * v + 5 * v
-    below w n z m i a j s k =
-        let q : n ≤ w * m + 3 * m = omega arith in
-        le-of-mul-le-mul-right {m = 33554432 * u} {n = w * v + 5 * v} {k = m} (omega (arith, mul-le-mul-right v q)) i
+    below : (w n m : ℕ) → 0 < m → n ≤ w * m + 3 * m → u * (33554432 * m) ≤ n * v + v * (2 * m) → 33554432 * u ≤ w * v + 5 * v
+    below w n m i q k = le-of-mul-le-mul-right {m = 33554432 * u} {n = w * v + 5 * v} {k = m} (omega (arith, mul-le-mul-right v q)) i
 
 -- ---- the smaller and the larger
 pub smaller-le : (x y : ℕ) → smaller x y ≤ larger x y
@@ -138,30 +151,18 @@ pub larger-pos : (x y : ℕ) → (0 < x) ⊎ (0 < y) → 0 < larger x y
 larger-pos x y (inl p) = lt-of-lt-of-le p (larger-x x y)
 larger-pos x y (inr p) = lt-of-lt-of-le p (larger-y x y)
 
--- ---- the division of two f32
-module _ (u v : Float) (s : Sorted u v) where
-  abbrev r : Float
-  r = div binary32 u v
-
-  r-value : HasValue r false (rounded (mag u) (mag v)) unity
-  r-value =
-      div-value binary32 u v (mag u) (mag v) (s .first) (s .second) (s .some)
-      (lt-of-le-of-lt (at-most-one (mag u) (mag v) (s .order) (s .some)) (lit< tt))
-
-  -- with 1 before it
+-- ---- an f32 from 0 to 1, with 1 before it
+module _ (r : Float) (p : Proper r) where
   abbrev z : Float
   z = add binary32 (ofBits binary32 1065353216) r
 
   abbrev k : ℕ
-  k = rounded (unity + rounded (mag u) (mag v)) unity
-
-  below-one : rounded (mag u) (mag v) ≤ unity
-  below-one = at-most-one (mag u) (mag v) (s .order) (s .some)
+  k = rounded (unity + mag r) unity
 
   z-value : HasValue z false k unity
   z-value =
-      add-value binary32 (ofBits binary32 1065353216) r unity (rounded (mag u) (mag v)) (bits-val 1065353216 (lit< tt)) r-value
-      (lt-of-le-of-lt (sum-high (rounded (mag u) (mag v)) below-one) (lit< tt))
+      add-value binary32 (ofBits binary32 1065353216) r unity (mag r) (bits-val 1065353216 (lit< tt)) (p .has)
+      (lt-of-le-of-lt (sum-high (mag r) (p .most)) (lit< tt))
 
   z-finite : T (finite z)
   z-finite = finite-of z false k unity z-value
@@ -185,11 +186,33 @@ module _ (u v : Float) (s : Sorted u v) where
   sum-val = ap val (sym bare-is) ∙ sym (mag-bare z (add-fits binary32 (ofBits binary32 1065353216) r) z-finite) ∙ mag-is z false k z-value
 
   pub sum-least : 1065353216 ≤ b
-  sum-least = val-le-back 1065353216 b (le-trans (sum-low (rounded (mag u) (mag v))) (le-of-eq (sym sum-val)))
+  sum-least = val-le-back 1065353216 b (le-trans (sum-low (mag r)) (le-of-eq (sym sum-val)))
 
   pub sum-most : b ≤ 1073741824
-  sum-most = val-le-back b 1073741824 (le-trans (le-of-eq sum-val) (sum-high (rounded (mag u) (mag v)) below-one))
+  sum-most = val-le-back b 1073741824 (le-trans (le-of-eq sum-val) (sum-high (mag r) (p .most)))
 
-  pub ratio-is : (4 * (b - 1065353216) ≡ ratio (mag u) (mag v)) × (4 * (b - 1065353216) ≤ 33554432)
+  pub digits-is : (4 * (b - 1065353216) ≡ digits (mag r)) × (4 * (b - 1065353216) ≤ 33554432)
+  digits-is = (past-one b sum-least sum-most ∙ ap (λ (n : ℕ). (n - unity) / 2 ^ 124) sum-val, omega (arith, sum-most))
+
+-- ---- the division of two f32
+module _ (u v : Float) (s : Sorted u v) where
+  abbrev r : Float
+  r = div binary32 u v
+
+  r-value : HasValue r false (rounded (mag u) (mag v)) unity
+  r-value =
+      div-value binary32 u v (mag u) (mag v) (s .first) (s .second) (s .some)
+      (lt-of-le-of-lt (at-most-one (mag u) (mag v) (s .order) (s .some)) (lit< tt))
+
+  r-mag : mag r ≡ rounded (mag u) (mag v)
+  r-mag = mag-is r false (rounded (mag u) (mag v)) r-value
+
+  pub quotient-proper : Proper r
+  quotient-proper = record {
+    has = subst (λ (n : ℕ). HasValue r false n unity) (sym r-mag) r-value;
+    most = subst (λ (n : ℕ). n ≤ unity) (sym r-mag) (at-most-one (mag u) (mag v) (s .order) (s .some));
+  }
+
+  pub ratio-is : (w : ℕ) → w ≡ digits (mag r) → w ≡ ratio (mag u) (mag v)
   unfolding ratio
-  ratio-is = (past-one b sum-least sum-most ∙ ap (λ (n : ℕ). (n - unity) / 2 ^ 124) sum-val, omega (arith, sum-most))
+  ratio-is w e = e ∙ ap digits r-mag

@@ -44,7 +44,7 @@ abbrev pub Beyond : ℕ → ℕ → Type 0
 Beyond k zero = Unit {0}
 Beyond k (suc n) = Beyond k n × (k ≡ n → ⊥)
 
-beyond : (k n : ℕ) → Beyond k n → n ≤ k
+pub beyond : (k n : ℕ) → Beyond k n → n ≤ k
 beyond k zero b = omega arith
 beyond k (suc n) b = let h = beyond k n (b .0) in omega (arith, b .1)
 

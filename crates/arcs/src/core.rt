@@ -1,6 +1,7 @@
 // Arc cosine and atan2 behind the door, total on every value, for the rooms above. Arc cosine of
 // what is not from -1 to 1, and atan2 of what is not finite, is +0.
 use crate::angle;
+use crate::arc_sine;
 use crate::digits;
 use numbers::door;
 use numbers::limits;
@@ -36,11 +37,18 @@ pub fn atan2(y: f32, x: f32) -> f32
     }
 }
 
-// The angle of (q, root of 1 - q²).
+// Up to 45/64, which is 0x3f34_0000, by its arc sine, else the angle of (q, root of 1 - q²). The sign
+// bit is 2^31.
 pub(crate) fn inside_arc_cosine(q: f32) -> f32
     requires { ⌜ T (permits arcCosineArgument q) ⌝ }
     ensures { λ r. ⌜ r ≡ insideArcCosine q ⌝ }
 {
+    let b = f32::to_bits(q);
+    let i = b % 0x8000_0000;
+    if i <= 0x3f34_0000 {
+        let w = digits::digits(f32::from_bits(i));
+        return digits::scaled(false, arc_sine::upright(0x8000_0000 <= b, w));
+    }
     finite_atan2(roots::core::square_root((1.0 - q) * (1.0 + q)), q)
 }
 

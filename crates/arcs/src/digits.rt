@@ -4,7 +4,7 @@ ghost use Prim.Native.Nat.{_≤_, _^_};
 ghost use lib.IntN.{negsuc};
 ghost use lib.Ieee.{fin};
 ghost use Rattle.units.specs.Units.{mag};
-ghost use Rattle.arcs.specs.How.{Sorted, ratio, inRadians};
+ghost use Rattle.arcs.specs.How.{Proper, Sorted, digits, ratio, inRadians};
 
 // 2^-22, the unit of an angle, or its negative.
 fn angle_unit(below: bool) -> f32
@@ -26,11 +26,19 @@ pub fn scaled(below: bool, a: u32) -> f32
     a as f32 * angle_unit(below)
 }
 
-// u / v in units of 2^-25. A 1 before it leaves 23 of its digits, and they stand in the sum's bits
-// past those of 1, which are 0x3f80_0000.
+// A number from 0 to 1 in units of 2^-25. A 1 before it leaves 23 of its digits, and they stand in the
+// sum's bits past those of 1, which are 0x3f80_0000.
+pub fn digits(u: f32) -> u32
+    requires { ⌜ Proper u ⌝ }
+    ensures { λ r. ⌜ (r ≡ digits (mag u)) × (r ≤ 2 ^ 25) ⌝ }
+{
+    4 * (f32::to_bits(1.0 + u) - 0x3f80_0000)
+}
+
+// u / v in units of 2^-25.
 pub fn ratio(u: f32, v: f32) -> u32
     requires { ⌜ Sorted u v ⌝ }
     ensures { λ r. ⌜ (r ≡ ratio (mag u) (mag v)) × (r ≤ 2 ^ 25) ⌝ }
 {
-    4 * (f32::to_bits(1.0 + u / v) - 0x3f80_0000)
+    digits(u / v)
 }

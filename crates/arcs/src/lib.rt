@@ -1,6 +1,7 @@
 // Arc cosine and atan2 of f32: one division of f32 for the ratio of a vector's sides, then whole
 // numbers of at most 64 bits, a table of 129 angles and two terms of a series for the rest. Arc
-// cosine is the angle of (q, root of 1 - q²).
+// cosine is the angle of (q, root of 1 - q²), and for q up to 45/64 a quarter turn less an arc sine
+// by a table of its own, without root and division.
 use numbers::Answer;
 use numbers::door;
 use numbers::limits;
@@ -12,6 +13,8 @@ ghost use Rattle.arcs.specs.Entries.{arcCosineTold, atan2Refusal, atan2T
 ghost use Rattle.arcs.specs.Wedges.{ArcCosineOf, Atan2Of};
 
 mod angle;
+mod arc_sine;
+mod arc_sine_table;
 pub mod core;
 mod digits;
 mod table;
