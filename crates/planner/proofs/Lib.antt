@@ -1,5 +1,4 @@
 mod Bits
-mod Halves
 mod Together
 pub mod Within
 pub mod Marks

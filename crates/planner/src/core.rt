@@ -6,8 +6,7 @@ use legs::Point;
 use legs::Points;
 ghost use mathlib.Core.Path.{_≡_};
 ghost use Rattle.numbers.specs.Told.{choose};
-ghost use Rattle.legs.specs.Vectors.{plus, minus};
-ghost use Rattle.planner.specs.Plan.{trioOf, summed, inRow, centerPoint, between, averageRotation, readyFoot, planned};
+ghost use Rattle.planner.specs.Plan.{trioOf, summed, inRow, level, centerPoint, between, averageRotation, readyFoot, planned};
 ghost use Rattle.planner.specs.How.{readyFeet};
 
 // The three standing feet, in the order in which they are summed.
@@ -70,28 +69,6 @@ fn between(a: Point, b: Point) -> Point
     }
 }
 
-// A point moved by a vector.
-fn plus(p: Point, v: Point) -> Point
-    ensures { λ r. ⌜ r ≡ plus p v ⌝ }
-{
-    Point {
-        x: p.x + v.x,
-        y: p.y + v.y,
-        z: p.z + v.z,
-    }
-}
-
-// A point moved against a vector.
-fn minus(p: Point, v: Point) -> Point
-    ensures { λ r. ⌜ r ≡ minus p v ⌝ }
-{
-    Point {
-        x: p.x - v.x,
-        y: p.y - v.y,
-        z: p.z - v.z,
-    }
-}
-
 // The mean angle from the start's vectors, taken from their centre, to the relaxed ones, which are not.
 fn average_rotation(start: Trio, middle: Point, relaxed: Trio) -> f32
     ensures { λ r. ⌜ r ≡ averageRotation start middle relaxed ⌝ }
@@ -103,19 +80,28 @@ fn average_rotation(start: Trio, middle: Point, relaxed: Trio) -> f32
 }
 
 // A foot before its turn: a lifted one ahead of its relaxed place by the linear motion, a standing one back by it, after the translation.
+// Both lead sideways alone: their third component is 0, a constant here, so that the compiler can leave out what takes it away.
 fn ready_foot(lifted: bool, start: Point, relaxed: Point, motion: Point, shift: Point) -> Point
-    ensures { λ r. ⌜ r ≡ readyFoot lifted start relaxed motion shift ⌝ }
+    ensures { λ r. ⌜ r ≡ readyFoot lifted start relaxed (level (motion .x) (motion .y)) (level (shift .x) (shift .y)) ⌝ }
 {
     if lifted {
-        plus(relaxed, motion)
+        Point {
+            x: relaxed.x + motion.x,
+            y: relaxed.y + motion.y,
+            z: relaxed.z + 0.0,
+        }
     } else {
-        minus(plus(start, shift), motion)
+        Point {
+            x: start.x + shift.x - motion.x,
+            y: start.y + shift.y - motion.y,
+            z: start.z + 0.0 - 0.0,
+        }
     }
 }
 
 // Six feet before their turns.
 fn ready_feet(lrl: bool, start: Points, relaxed: Points, motion: Point, shift: Point) -> Points
-    ensures { λ r. ⌜ r ≡ readyFeet lrl start relaxed motion shift ⌝ }
+    ensures { λ r. ⌜ r ≡ readyFeet lrl start relaxed (level (motion .x) (motion .y)) (level (shift .x) (shift .y)) ⌝ }
 {
     Points {
         left_front: ready_foot(lrl, start.left_front, relaxed.left_front, motion, shift),
@@ -157,7 +143,7 @@ pub fn step_with_relaxed_transformation(
         in_row(lifted_tripod, relaxed),
     );
     let rotation = command.rotation / 2.0;
-    let correcting_rotation = average + -rotation;
+    let correcting_rotation = average + -command.rotation / 2.0;
     let lrl = commands::core::is_lrl(lifted_tripod);
     let first = turns::turn(chosen(lrl, rotation, correcting_rotation));
     let second = turns::turn(chosen(lrl, correcting_rotation, rotation));

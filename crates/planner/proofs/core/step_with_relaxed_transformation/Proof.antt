@@ -1,20 +1,20 @@
 -- `planner::core::step_with_relaxed_transformation` meets its contract: what each call gives is the part of the plan that it computes.
 use Rattle.commands.proofs.Constants.{nought-bits}
+use Rattle.planner.specs.Plan.{between}
 use Rattle.planner.proofs.Together.{together}
 use Rattle.planner.proofs.Bits.{two-bits}
-use Rattle.planner.proofs.Halves.{half-of-opposite}
 use Rattle.planner.proofs.core.step_with_relaxed_transformation.Statement.{statement}
 use Rattle.planner.proofs.core.step_with_relaxed_transformation.Tie as tie
 
 returns : tie.Need-returns
+unfolding between
 returns c =
-    let d = c .before .before .before .before .before .before .before .before in
+    let d = c .before .before .before .before .before .before .before .before .before in
     let e = d .before .before .before in
     let a = e .before .before .before .before .before .args in
     simp (
       nought-bits,
       two-bits,
-      ← half-of-opposite (a .command .rotation),
       c .applied-feet .ensures,
       c .before .ready-feet .ensures,
       c .before .before .turn2 .ensures,
