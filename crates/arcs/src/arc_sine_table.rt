@@ -3,7 +3,7 @@ ghost use mathlib.Core.Path.{_≡_};
 ghost use Prim.Native.Nat.{_≤_, _<_};
 ghost use Rattle.arc_rows.specs.ArcSine.{angleAt, slopeAt, bendAt};
 
-pub struct Row(pub u32, pub u32, pub u32);
+pub struct Row(pub u32, pub u32, pub u16);
 
 // For k from 0 to 90: the arc sine at k / 128 in units of 2^-30, how fast it grows there in units of
 // 2^-23, and how its growth bends in units of 2^-16. The arms are made by tools/arc_sine_table.py; the
