@@ -142,7 +142,8 @@ module _ (q : Float) (f : T (fits binary32 q)) (h : T (permits arcCosineArgument
     upright-rule : mag q ≤ uprightMost → ArcCosine e q (inRadians false (upright (signBit q) (digits (mag q))))
     upright-rule g =
         rule (upright (signBit q) (digits (mag q))) (upright-le (signBit q) (digits (mag q)) (few-digits (mag q) g))
-        (upright-sides F F-low F-high unity (mag q) (digits (mag q)) (digit-of (mag q) (at-most-one q f h)) (few-digits (mag q) g) (signBit q))
+        (upright-sides F F-low F-high unity (mag q) (digits (mag q)) (digit-of (mag q) (at-most-one q f h)) (few-digits (mag q) g)
+        (signBit q))
         (λ k. absurd (no (2 ^ 143) (lit< tt) (one-is k .1) g))
       where
         no : (m : ℕ) → 0 < m → mag q ≡ 64 * m → mag q ≤ 45 * m → ⊥

@@ -144,7 +144,8 @@ module _ (k x : ℕ) (hk : k < 91) (hx : x < 262144) where
       let i : n ≡ base k + w = omega (arith, row-sized k hk .0) in
       under unit (cosineOf k) (sineOf k) (sp n) (sm n) D k x (68719476736 * w) (at (68719476736 * o) B C x) (at 0 B C x) unit-pos
       (most o z d w (x * (262144 * B + x * C)) p e (computed-low B C x)) g
-      (high-scaled 68719476736 unit w (cosineOf k) (sineOf k) (sp n) (sm n) D unit-is (sine-ahead k hk w n r i .high)) (row-before k hk x hx)
+      (high-scaled 68719476736 unit w (cosineOf k) (sineOf k) (sp n) (sm n) D unit-is (sine-ahead k hk w n r i .high))
+      (row-before k hk x hx)
     where
       most : (o z d w y : ℕ) → 896 ≤ d → w + d ≡ o + z → 68719476736 * z ≤ y → 68719476736 * w + 61572651155456 ≤ 68719476736 * o + y
       most o z d w y p e h = omega arith

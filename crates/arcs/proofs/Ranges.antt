@@ -1,11 +1,12 @@
 -- What the functions on whole numbers ask: that nothing overflows, and what each choice answers. Assumes nothing.
-use Prim.Native.Nat.{ℕ, _+_, _*_, _-_, _/_, _%_, _≤_}
+use Prim.Native.Nat.{ℕ, _+_, _*_, _-_, _/_, _%_, _≤_, _<_}
 use mathlib.Core.Path.{_≡_, sym, ap, ap₂, _∙_, subst}
 use mathlib.Core.Bool.{Bool, true, false, cond}
 use native.Mathlib.Nat.{mul-le-mul, mul-le-mul-left, div-le-of-le-mul}
 use native.Mathlib.Omega.{arith}
 use Rattle.arc_rows.specs.ArcTangent.{arcTangent}
 use Rattle.arc_rows.specs.ArcSine.{angleAt, slopeAt, bendAt}
+use Rattle.arc_rows.proofs.SineRows.{row-sized}
 use Rattle.arcs.specs.How.{quarter, half, tableRow, lean, straight, bend, slope, sharp, wide, angle, arcSine, upright}
 use Rattle.arcs.proofs.Rest.{close}
 
@@ -84,7 +85,7 @@ pub record Grown (x b c : ℕ) : Type 0 where
   pub product : x * (b + x * c / 262144) ≤ 3110479069184
   pub grown-le : x * (b + x * c / 262144) / 262144 ≤ 11865536
 
-pub grown : (x b c : ℕ) → x ≤ 262144 → b ≤ 11800000 → c ≤ 65535 → Grown x b c
+grown : (x b c : ℕ) → x ≤ 262144 → b ≤ 11800000 → c ≤ 65535 → Grown x b c
 grown x b c h i j =
     let k : c ≤ 65536 = omega arith in
     let p : x * c ≤ 262144 * 65536 = mul-le-mul h k in
@@ -96,13 +97,25 @@ grown x b c h i j =
 abbrev pub sineBy : ℕ → ℕ → ℕ → ℕ → ℕ
 sineBy w a b c = a + w % 262144 * (b + w % 262144 * c / 262144) / 262144
 
-pub sine-is : (w a b c : ℕ) → a ≡ angleAt (tableRow w) → b ≡ slopeAt (tableRow w) → c ≡ bendAt (tableRow w) → a ≤ 838000000 → b ≤ 11800000
-    → c ≤ 65535 → (sineBy w a b c ≡ arcSine w) × (sineBy w a b c ≤ 850000000)
-unfolding arcSine
-sine-is w a b c ea eb ec la lb lc = (
-  ap₂ (λ (m n : ℕ). sineBy w m n c) ea eb ∙ ap (λ (m : ℕ). sineBy w (angleAt (tableRow w)) (slopeAt (tableRow w)) m) ec,
-  omega (arith, grown (w % 262144) b c (omega arith) lb lc .grown-le),
-)
+module _ (w a b c : ℕ) (h : w < 23855104) (ea : a ≡ angleAt (tableRow w)) (eb : b ≡ slopeAt (tableRow w))
+    (ec : c ≡ bendAt (tableRow w)) where
+  abbrev row : tableRow w < 91
+  row = omega arith
+
+  pub sine-steps : Grown (w % 262144) b c
+  sine-steps =
+      grown (w % 262144) b c (omega arith) (subst (λ (n : ℕ). n ≤ 11800000) (sym eb) (row-sized (tableRow w) row .2))
+      (subst (λ (n : ℕ). n ≤ 65535) (sym ec) (row-sized (tableRow w) row .3))
+
+  pub sine-is : (sineBy w a b c ≡ arcSine w) × (sineBy w a b c ≤ 850000000)
+  unfolding arcSine
+  sine-is = (
+    ap₂ (λ (m n : ℕ). sineBy w m n c) ea eb ∙ ap (λ (m : ℕ). sineBy w (angleAt (tableRow w)) (slopeAt (tableRow w)) m) ec,
+    most (subst (λ (n : ℕ). n ≤ 838000000) (sym ea) (row-sized (tableRow w) row .1)) (sine-steps .grown-le),
+  )
+    where
+      most : a ≤ 838000000 → w % 262144 * (b + w % 262144 * c / 262144) / 262144 ≤ 11865536 → sineBy w a b c ≤ 850000000
+      most i j = omega arith
 
 -- ---- `upright`
 pub beside-le : (left : Bool) (t : ℕ) → t ≤ 850000000 → cond left (quarter + t) (quarter - t) ≤ 2536629713

@@ -1,4 +1,5 @@
--- The digits of a number up to 1, and the ratio of two sides: how near they are, and that an f32 sum and a division give them. Assumes nothing.
+-- The digits of a number up to 1, and the ratio of two sides: how near they are, and that an f32 sum and a division give them. Assumes
+-- nothing.
 use mathlib.Core.Path.{_≡_, refl, sym, ap, _∙_, subst}
 use mathlib.Core.Logic.{_⊎_, inl, inr}
 use mathlib.Core.Bool.{Bool, true, false, not, cond}

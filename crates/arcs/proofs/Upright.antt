@@ -1,5 +1,5 @@
--- The angle beside a quarter turn, by an arc sine: it meets document 01's rule for Q / U and for -Q / U, at any e of F * 2 ^ -22 with F from
--- 4 to 16. Assumes nothing.
+-- The angle beside a quarter turn, by an arc sine: it meets document 01's rule for Q / U and for -Q / U, at any e of F * 2 ^ -22 with F
+-- from 4 to 16. Assumes nothing.
 use Prim.Native.Nat.{ℕ, _+_, _*_, _-_, _/_, _≤_, _<_}
 use mathlib.Core.Path.{_≡_}
 use mathlib.Core.Logic.{inl, inr}

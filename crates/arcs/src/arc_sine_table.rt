@@ -1,6 +1,6 @@
 // The table of arc sines. It is a `match` and no array, as the table of angles is.
 ghost use mathlib.Core.Path.{_≡_};
-ghost use Prim.Native.Nat.{_≤_, _<_};
+ghost use Prim.Native.Nat.{_<_};
 ghost use Rattle.arc_rows.specs.ArcSine.{angleAt, slopeAt, bendAt};
 
 pub struct Row(pub u32, pub u32, pub u16);
@@ -10,7 +10,7 @@ pub struct Row(pub u32, pub u32, pub u16);
 // proof holds each to the lists of `arc_rows`.
 pub fn entry(k: u32) -> Row
     requires { ⌜ k < 91 ⌝ }
-    ensures { λ r. ⌜ (r .0 ≡ angleAt k) × (r .1 ≡ slopeAt k) × (r .2 ≡ bendAt k) × (r .0 ≤ 838000000) × (r .1 ≤ 11800000) × (r .2 ≤ 65535) ⌝ }
+    ensures { λ r. ⌜ (r .0 ≡ angleAt k) × (r .1 ≡ slopeAt k) × (r .2 ≡ bendAt k) ⌝ }
 {
     match k {
         0 => Row(0, 8388608, 0),

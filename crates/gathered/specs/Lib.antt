@@ -10,6 +10,7 @@ pub use Rattle.series.specs.Fractions as SeriesFractions
 pub use Rattle.series.specs.Series as SeriesSeries
 pub use Rattle.series.specs.Working as SeriesWorking
 pub use Rattle.arc_rows.specs.ArcTangent as ArcRowsArcTangent
+pub use Rattle.arc_rows.specs.ArcSine as ArcRowsArcSine
 pub use Rattle.roots.specs.How as RootsHow
 pub use Rattle.roots.specs.Root as RootsRoot
 pub use Rattle.roots.specs.Entries as RootsEntries

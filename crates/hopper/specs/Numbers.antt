@@ -10,6 +10,7 @@ pub use Rattle.gathered.specs.SeriesFractions
 pub use Rattle.gathered.specs.SeriesSeries
 pub use Rattle.gathered.specs.SeriesWorking
 pub use Rattle.gathered.specs.ArcRowsArcTangent
+pub use Rattle.gathered.specs.ArcRowsArcSine
 pub use Rattle.gathered.specs.RootsHow
 pub use Rattle.gathered.specs.RootsRoot
 pub use Rattle.gathered.specs.RootsEntries

@@ -1,15 +1,28 @@
 -- `arcs::arc_sine::arc_sine` meets its contract: the polynomial as it is computed grows by less than 2 ^ 24 over a row, so nothing
 -- overflows.
 use native.Mathlib.Omega.{arith}
-use Prim.Native.Nat.{_%_}
-use Rattle.arcs.proofs.Ranges.{Grown, grown, sine-is}
+use mathlib.Core.Path.{_≡_}
+use Prim.Native.Nat.{_%_, _≤_}
+use Rattle.arcs.specs.How.{arcSine}
+use Rattle.arcs.proofs.Ranges.{Grown, sineBy, sine-steps, sine-is}
 use borrow.Author.Needs.{needs}
 use Rattle.arcs.proofs.arc_sine.arc_sine.Statement.{statement}
 use Rattle.arcs.proofs.arc_sine.arc_sine.Tie as tie
 
 steps : (c : tie.After-entry) → Grown (c .before .args .w % 262144) (c .entry .result .1) (c .entry .result .2)
 steps c =
-    grown (c .before .args .w % 262144) (c .entry .result .1) (c .entry .result .2) (omega arith) (c .entry .ensures .4) (c .entry .ensures .5)
+    let r = c .entry .result in
+    let h = c .entry .ensures in
+    sine-steps (c .before .args .w) (r .0) (r .1) (r .2) (c .before .pre) (h .0) (h .1) (h .2)
+
+answer : (c : tie.After-entry)
+    → let w = c .before .args .w in
+    let r = c .entry .result in
+    (sineBy w (r .0) (r .1) (r .2) ≡ arcSine w) × (sineBy w (r .0) (r .1) (r .2) ≤ 850000000)
+answer c =
+    let r = c .entry .result in
+    let h = c .entry .ensures in
+    sine-is (c .before .args .w) (r .0) (r .1) (r .2) (c .before .pre) (h .0) (h .1) (h .2)
 
 entry-requires : tie.Need-entry-requires
 entry-requires c κs = search needs
@@ -36,14 +49,10 @@ cast-result : tie.Need-cast-result
 cast-result c = omega (arith, steps (c .before .before))
 
 add-result : tie.Need-add-result
-add-result c = omega (arith, steps (c .before .before .before))
+add-result c = omega (arith, answer (c .before .before .before) .1)
 
 returns : tie.Need-returns
-returns c =
-    let s = c .before .before .before in
-    let r = s .entry in
-    let h = r .ensures in
-    sine-is (s .before .args .w) (r .result .0) (r .result .1) (r .result .2) (h .0) (h .1) (h .2) (h .3) (h .4) (h .5)
+returns c = answer (c .before .before .before)
 
 pub arc-sine-spec : {M : Type 1} → statement M
 arc-sine-spec =
