@@ -60,6 +60,7 @@ use Rattle.sines.proofs.cosine.Reads as sines-cosine
 use Rattle.sines.proofs.core.sine.Reads as sines-core-sine
 use Rattle.sines.proofs.core.cosine.Reads as sines-core-cosine
 use Rattle.sines.proofs.core.sine_and_cosine.Reads as sines-core-sine-and-cosine
+use Rattle.sines.proofs.eighteen.turns.Reads as sines-eighteen-turns
 use Rattle.arcs.proofs.arc_cosine.Reads as arcs-arc-cosine
 use Rattle.arcs.proofs.atan2.Reads as arcs-atan2
 use Rattle.arcs.proofs.core.arc_cosine.Reads as arcs-core-arc-cosine
@@ -205,7 +206,6 @@ use Rattle.joints.proofs.core.nearest.Reads as joints-core-nearest
 use Rattle.joints.proofs.core.calculate_ik.Reads as joints-core-calculate-ik
 use Rattle.joints.proofs.core.calculate_ik_strict.Reads as joints-core-calculate-ik-strict
 use Rattle.joints.proofs.core.from_motor.Reads as joints-core-from-motor
-use Rattle.joints.proofs.core.calculate_fk_for_leg.Reads as joints-core-calculate-fk-for-leg
 use Rattle.joints.proofs.core.calculate_fk.Reads as joints-core-calculate-fk
 use Rattle.poses.proofs.from_json.Reads as poses-from-json
 use Rattle.poses.proofs.to_json.Reads as poses-to-json
@@ -336,6 +336,9 @@ settled-sines-core-cosine i a b p q = one-value a b (p .0) (q .0)
 
 pub settled-sines-core-sine-and-cosine : Settled (sines-core-sine-and-cosine.Post tt)
 settled-sines-core-sine-and-cosine i a b p q = same-turn a b (p .0 ∙ sym (q .0)) (p .1 ∙ sym (q .1))
+
+pub settled-sines-eighteen-turns : Settled (sines-eighteen-turns.Post tt)
+settled-sines-eighteen-turns i = one-value
 
 -- ---- arcs
 pub settled-arcs-arc-cosine : Settled (arcs-arc-cosine.Post tt)
@@ -780,9 +783,6 @@ settled-joints-core-calculate-ik-strict i = one-answer joints.toldLegs joints-on
 
 pub settled-joints-core-from-motor : Settled (joints-core-from-motor.Post tt)
 settled-joints-core-from-motor i = one-value
-
-pub settled-joints-core-calculate-fk-for-leg : Settled (joints-core-calculate-fk-for-leg.Post tt)
-settled-joints-core-calculate-fk-for-leg i = one-value
 
 pub settled-joints-core-calculate-fk : Settled (joints-core-calculate-fk.Post tt)
 settled-joints-core-calculate-fk i = one-value

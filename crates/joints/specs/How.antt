@@ -1,11 +1,15 @@
 -- How ours solves six legs, and nothing of document 01: all set out before one is solved, so that their roots are taken side by side; none
--- is solved where one is refused, and the core names the first such leg and its refusal. Both solvers set out and solve by the same.
+-- is solved where one is refused, and the core names the first such leg and its refusal. Both solvers set out and solve by the same. Where
+-- six feet stand: all sines and cosines before the first point, side by side too.
 use Prim.Native.Nat.{ℕ, suc}
 use mathlib.Core.List.{List, [], _∷_}
+use mathlib.Core.Path.{_≡_}
 use lib.Dec.{eqb}
 use lib.Ieee.{Float}
 use Rattle.numbers.specs.Told.{Told, choose}
-use Rattle.legs.specs.Legs.{Leg, leftFront, rightFront, leftMiddle, rightMiddle, leftRear, rightRear, row, foot, joints}
+use Rattle.sines.specs.How.{turn}
+use Rattle.sines.specs.declared.core.Turn.{Turn}
+use Rattle.legs.specs.Legs.{Leg, leftFront, rightFront, leftMiddle, rightMiddle, leftRear, rightRear, row, foot, angles, joints}
 use Rattle.legs.specs.declared.Point.{Point}
 use Rattle.legs.specs.declared.Feet.{Feet}
 use Rattle.legs.specs.declared.LegAngles.{LegAngles}
@@ -14,6 +18,7 @@ use Rattle.joints.specs.Configured.{leg}
 use Rattle.joints.specs.Answers.{legRefused}
 use Rattle.joints.specs.Inverse.{relativeVector, coxaAngle, horizontalDistance, distance, motorAngles, pastPositive, pastRefusal}
 use Rattle.joints.specs.Strict.{farthest, nearest, distanceRefusal}
+use Rattle.joints.specs.Forward.{baseAngle, femurTurn, tibiaTurn, standing}
 use Rattle.joints.specs.declared.Solution.{Solution}
 use Rattle.joints.specs.declared.Solution.the-variants.{Solved, LegRefused}
 use Rattle.joints.specs.declared.configuration.Body.{Body}
@@ -23,6 +28,7 @@ use Rattle.joints.specs.declared.core.Distances.{Distances}
 use Rattle.joints.specs.declared.core.Heading.{Heading}
 use Rattle.joints.specs.declared.core.Headings.{Headings}
 use Rattle.joints.specs.declared.core.RefusedLeg.{RefusedLeg}
+use Rattle.joints.specs.declared.core.Bends.{Bends}
 use Rattle.joints.specs.declared.core.LegsSolved.{LegsSolved}
 use Rattle.joints.specs.declared.core.LegsSolved.the-variants.{Joints as AllAngles, Refused as OneRefused}
 
@@ -94,3 +100,29 @@ unlessRefused p t = choose (eqb (p .refusal) 0) t (legRefused (p .refusal) (p .l
 abbrev pub answered : LegsSolved → Solution
 answered (AllAngles j) = Solved j
 answered (OneRefused n k) = LegRefused n k
+
+-- ---- forward kinematics: the angles whose sines and cosines are taken, of one leg, and of six, three each
+unfoldable pub bendsOf : LegAngles → Body → LegConfiguration → Bends
+bendsOf m b l = record { base = baseAngle m l; femur = femurTurn m b l; tibia = tibiaTurn m b l }
+
+abbrev pub three : Bends → List Float → List Float
+three t more = t .base ∷ t .femur ∷ t .tibia ∷ more
+
+unfoldable pub allBends : Joints → Configuration → List Float
+allBends j c =
+    let of : Leg → Bends = λ l. bendsOf (angles j l) (c .body) (leg c l) in
+    three (of leftFront)
+    (three (of leftMiddle)
+    (three (of leftRear)
+    (three (of rightFront)
+    (three (of rightMiddle)
+    (three (of rightRear) [])))))
+
+-- at r stands the foot of a leg whose bends have these turns
+abbrev pub Stands : Turn → Turn → Turn → Body → LegConfiguration → Point → Type 0
+Stands base femur tibia b l r =
+    (m : LegAngles)
+    → base ≡ turn (baseAngle m l)
+    → femur ≡ turn (femurTurn m b l)
+    → tibia ≡ turn (tibiaTurn m b l)
+    → r ≡ standing m b l

@@ -7,13 +7,15 @@ use legs::Joints;
 use legs::LegAngles;
 use legs::Point;
 use legs::Points;
+use sines::core::Turn;
 ghost use mathlib.Core.Bool.{_||_};
 ghost use mathlib.Core.Path.{_≡_};
 ghost use Rattle.joints.specs.Answers.{toldLegs};
 ghost use Rattle.joints.specs.Inverse.{relativeVector, getAlphaAngle, corrected, pastPositive, pastNegative, legsTold};
 ghost use Rattle.joints.specs.Strict.{farthest, nearest, distanceRefusal, strictLegsTold};
 ghost use Rattle.joints.specs.How.{distances, heading, headings, solvedAngles, pastAt, earlier, firstPast, firstOutOfReach};
-ghost use Rattle.joints.specs.Forward.{fromMotor, standing, standingPoints};
+ghost use Rattle.joints.specs.How.{bendsOf, allBends, Stands};
+ghost use Rattle.joints.specs.Forward.{fromMotor, standingPoints};
 
 // Rust's `to_radians` of 90 and 150 degrees: 3fc90fdb and 40278d36.
 const NINETY: f32 = 1.5707964;
@@ -294,18 +296,66 @@ pub fn from_motor(motor: f32, correction: f32, offset: f32) -> f32
     numbers::core::absolute(motor - numbers::core::absolute(correction + offset))
 }
 
-// Where one foot stands at these motor angles.
-pub fn calculate_fk_for_leg(motors: LegAngles, body: Body, leg: LegConfiguration) -> Point
-    ensures { λ r. ⌜ r ≡ standing motors body leg ⌝ }
+// How far a leg's three parts are turned: the coxa from straight ahead, the femur and the tibia in the leg's own plane.
+pub struct Bends {
+    pub base: f32,
+    pub femur: f32,
+    pub tibia: f32,
+}
+
+// The bends of a leg at these motor angles.
+fn bends_of(motors: LegAngles, body: Body, leg: LegConfiguration) -> Bends
+    ensures { λ r. ⌜ r ≡ bendsOf motors body leg ⌝ }
 {
     let femur_angle = from_motor(motors.femur, leg.femur_correction, body.femur_offset);
     let tibia_angle = from_motor(motors.tibia, leg.tibia_correction, body.tibia_offset);
-    let base = sines::core::sine_and_cosine(motors.coxa - ONE_FIFTY - leg.angle_offset);
     let femur_turn = femur_angle - NINETY;
-    let femur = sines::core::sine_and_cosine(femur_turn);
+    Bends {
+        base: motors.coxa - ONE_FIFTY - leg.angle_offset,
+        femur: femur_turn,
+        tibia: tibia_angle - (NINETY - femur_turn),
+    }
+}
+
+// The bends of six legs, three each, leg by leg.
+fn all_bends(joints: Joints, config: Configuration) -> [f32; 18]
+    ensures { λ r. ⌜ r ≡ allBends joints config ⌝ }
+{
+    let body = config.body;
+    let a = bends_of(joints.left_front, body, config.left_front);
+    let b = bends_of(joints.left_middle, body, config.left_middle);
+    let c = bends_of(joints.left_rear, body, config.left_rear);
+    let d = bends_of(joints.right_front, body, config.right_front);
+    let e = bends_of(joints.right_middle, body, config.right_middle);
+    let f = bends_of(joints.right_rear, body, config.right_rear);
+    [
+        a.base,
+        a.femur,
+        a.tibia,
+        b.base,
+        b.femur,
+        b.tibia,
+        c.base,
+        c.femur,
+        c.tibia,
+        d.base,
+        d.femur,
+        d.tibia,
+        e.base,
+        e.femur,
+        e.tibia,
+        f.base,
+        f.femur,
+        f.tibia,
+    ]
+}
+
+// Where one foot stands, by the sines and cosines of its leg's bends.
+fn standing(base: Turn, femur: Turn, tibia: Turn, body: Body, leg: LegConfiguration) -> Point
+    ensures { λ r. ⌜ Stands base femur tibia body leg r ⌝ }
+{
     let femur_x = femur.sine * body.femur_length;
     let femur_y = femur.cosine * body.femur_length;
-    let tibia = sines::core::sine_and_cosine(tibia_angle - (NINETY - femur_turn));
     let tibia_x = tibia.sine * body.tibia_length;
     let tibia_y = tibia.cosine * body.tibia_length;
     Point {
@@ -321,17 +371,18 @@ pub fn calculate_fk_for_leg(motors: LegAngles, body: Body, leg: LegConfiguration
     }
 }
 
-// Six points, leg by leg.
+// Six points, leg by leg: all sines and cosines before the first point, so that they are taken side by side.
 pub fn calculate_fk(joints: Joints, config: Configuration) -> Points
     ensures { λ r. ⌜ r ≡ standingPoints joints config ⌝ }
 {
     let body = config.body;
+    let t = sines::eighteen::turns(all_bends(joints, config));
     Points {
-        left_front: calculate_fk_for_leg(joints.left_front, body, config.left_front),
-        left_middle: calculate_fk_for_leg(joints.left_middle, body, config.left_middle),
-        left_rear: calculate_fk_for_leg(joints.left_rear, body, config.left_rear),
-        right_front: calculate_fk_for_leg(joints.right_front, body, config.right_front),
-        right_middle: calculate_fk_for_leg(joints.right_middle, body, config.right_middle),
-        right_rear: calculate_fk_for_leg(joints.right_rear, body, config.right_rear),
+        left_front: standing(t[0], t[1], t[2], body, config.left_front),
+        left_middle: standing(t[3], t[4], t[5], body, config.left_middle),
+        left_rear: standing(t[6], t[7], t[8], body, config.left_rear),
+        right_front: standing(t[9], t[10], t[11], body, config.right_front),
+        right_middle: standing(t[12], t[13], t[14], body, config.right_middle),
+        right_rear: standing(t[15], t[16], t[17], body, config.right_rear),
     }
 }

@@ -15,7 +15,8 @@ use Rattle.series.proofs.Tables.{every, at}
 use Rattle.series.proofs.Polynomials.{spread, ev-spread}
 use Rattle.series.proofs.NearestTables.{NearestTable, nearest, nearest-le, sineTable, cosineTable, sine-nearest, cosine-nearest}
 use Rattle.series.proofs.Addition.{fsp, fsm, fcp, fcm, FD, FD-eighths, K, at-eighths}
-use Rattle.sines.specs.How.{eighth, tableOne, sineEntry, cosineEntry, PartsOf, sineSum, cosineSum, fixedSine, fixedCosine}
+use Rattle.sines.specs.How.{eighth, tableOne, sineEntry, cosineEntry, eighths, rest, square, even, odd}
+use Rattle.sines.specs.How.{sineSum, cosineSum, fixedSine, fixedCosine}
 
 -- f i, f (i + 1), .., so many
 unfoldable tabled : (ℕ → ℕ) → ℕ → ℕ → List ℕ
@@ -129,11 +130,17 @@ arm k {s} {c} {j} t h = (
   subst (λ (i : ℕ). c ≡ cosineEntry i) (sym h) (eqb→eq c (cosineEntry k) (t .1)),
 )
 
--- ---- the sums of an angle's parts
-pub sine-of-parts : (x s c a b : ℕ) → PartsOf x s c a b → sineSum s c a b ≡ fixedSine x
-unfolding fixedSine
-sine-of-parts x s c a b p = simp (p .s-is, p .c-is, p .a-is, p .b-is)
+-- ---- the sums of an angle's parts: sine and cosine of its eighths, cosine and sine of its rest
+module _
+    (x s c a b : ℕ)
+    (s-is : s ≡ sineEntry (eighths x))
+    (c-is : c ≡ cosineEntry (eighths x))
+    (a-is : a ≡ even (square (rest x)))
+    (b-is : b ≡ odd (rest x) (square (rest x))) where
+  pub sine-of-parts : sineSum s c a b ≡ fixedSine x
+  unfolding fixedSine
+  sine-of-parts = simp (s-is, c-is, a-is, b-is)
 
-pub cosine-of-parts : (x s c a b : ℕ) → PartsOf x s c a b → cosineSum s c a b ≡ fixedCosine x
-unfolding fixedCosine
-cosine-of-parts x s c a b p = simp (p .s-is, p .c-is, p .a-is, p .b-is)
+  pub cosine-of-parts : cosineSum s c a b ≡ fixedCosine x
+  unfolding fixedCosine
+  cosine-of-parts = simp (s-is, c-is, a-is, b-is)

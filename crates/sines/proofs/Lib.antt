@@ -5,6 +5,8 @@ mod Rest
 pub mod Entries
 mod Turn
 mod Whole
+mod Filled
+mod Counts
 pub mod Unrounded
 pub mod Sharp
 pub mod Fits

@@ -10,6 +10,8 @@ use lib.Ieee.{Float, fin, binary32, mul, neg, ofInt, toBits}
 use Rattle.numbers.specs.Door.{permits}
 use Rattle.numbers.specs.Limits.{sineArgument}
 use Rattle.units.specs.Patterns.{signSet, bare}
+use Rattle.sines.specs.declared.core.Turn.{Turn}
+use Rattle.sines.specs.declared.table.Eighths.{Eighths}
 use Rattle.series.specs.Working.{ev, sinP, sinM, cosP, cosM, denominator}
 
 -- ---- the numerals
@@ -93,17 +95,6 @@ even q = restOne - q * (squareFactor - q * fourthFactor / restOne) / restOne
 unfoldable pub odd : ℕ → ℕ → ℕ
 odd r q = r * (lineFactor - q * (cubeFactor - q * fifthFactor / restOne) / restOne) / restOne
 
--- the parts of x: sine and cosine of its eighths, cosine and sine of its rest, and how large they are
-pub record PartsOf (x s c a b : ℕ) : Type 0 where
-  pub s-is : s ≡ sineEntry (eighths x)
-  pub c-is : c ≡ cosineEntry (eighths x)
-  pub a-is : a ≡ even (square (rest x))
-  pub b-is : b ≡ odd (rest x) (square (rest x))
-  pub s-high : s ≤ 2 * tableOne
-  pub c-high : c ≤ 2 * tableOne
-  pub a-high : a ≤ restOne
-  pub b-high : b ≤ lineFactor
-
 -- ---- by the sums of two angles, as counts of the result's unit, to the nearest, and the surplus
 unfoldable pub sineSum : ℕ → ℕ → ℕ → ℕ → ℕ
 sineSum s c a b = (surplus * resultUnit - tableOne * (a + b) + s * a + c * b + resultUnit / 2) / resultUnit
@@ -142,8 +133,22 @@ insideCosine x =
     let b = toBits binary32 x in
     cond (ltb (bare b) tinyBits) (fin false 1 (pos 0)) (centred (fixedCosine (fixed (bare b))))
 
+-- x as it is asked of the table: a count of 2 ^ -35, 1 where it is below 2 ^ -12, and 0 outside the table of permitted numbers
+unfoldable pub count : Float → ℕ
+count x =
+    let m = bare (toBits binary32 x) in
+    cond (permits sineArgument x) (cond (ltb m tinyBits) 1 (fixed m)) 0
+
 unfoldable pub sine : Float → Float
 sine x = cond (permits sineArgument x) (insideSine x) (fin false 0 (pos 0))
 
 unfoldable pub cosine : Float → Float
 cosine x = cond (permits sineArgument x) (insideCosine x) (fin false 0 (pos 0))
+
+-- ---- both at once
+abbrev pub turn : Float → Turn
+turn x = record { sine = sine x; cosine = cosine x }
+
+-- what the table has at the whole eighths of a count
+abbrev pub entryAt : ℕ → Eighths
+entryAt n = record { 0 = sineEntry (eighths n); 1 = cosineEntry (eighths n) }

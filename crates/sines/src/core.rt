@@ -4,11 +4,13 @@ use crate::fixed;
 use numbers::door;
 use numbers::limits;
 ghost use mathlib.Core.Path.{_≡_};
+ghost use Prim.Native.Nat.{_≤_};
 ghost use lib.Dec.{T};
 ghost use Rattle.numbers.specs.Door.{permits};
 ghost use Rattle.numbers.specs.Limits.{sineArgument};
 ghost use Rattle.units.specs.Patterns.{signSet};
-ghost use Rattle.sines.specs.How.{sine, cosine, insideSine, insideCosine, lastPlace};
+ghost use Rattle.sines.specs.How.{sixteen, count, fixedSine, fixedCosine, lastPlace};
+ghost use Rattle.sines.specs.How.{sine, cosine, insideSine, insideCosine, turn};
 ghost use Rattle.sines.specs.Bands.{SineOf, CosineOf};
 
 // Whether x is within document 01's limits for an angle.
@@ -44,14 +46,8 @@ pub struct Turn {
 pub fn sine_and_cosine(x: f32) -> Turn
     ensures { λ r. ⌜ (r .sine ≡ sine x) × (r .cosine ≡ cosine x) ⌝ }
 {
-    if permitted(x) {
-        inside_both(x)
-    } else {
-        Turn {
-            sine: 0.0,
-            cosine: 0.0,
-        }
-    }
+    let n = count_of(x);
+    turned(x, n, fixed::both(n))
 }
 
 // The unit that results are counted in, 2^-24.
@@ -93,22 +89,41 @@ pub(crate) fn inside_cosine(x: f32) -> f32
     fixed::counted(LAST_PLACE, fixed::both(fixed::fixed_of(m)).cosine)
 }
 
-// Both, each as above.
-fn inside_both(x: f32) -> Turn
-    requires { ⌜ T (permits sineArgument x) ⌝ }
-    ensures { λ r. ⌜ (r .sine ≡ insideSine x) × (r .cosine ≡ insideCosine x) ⌝ }
+// x as a count of 2^-35; below 2^-12 it is 1, which no other number has, and outside the table 0.
+pub(crate) fn count_of(x: f32) -> u64
+    ensures { λ n. ⌜ (n ≡ count x) × (n ≤ sixteen) ⌝ }
 {
-    let b = f32::to_bits(x);
-    let m = b % 0x8000_0000;
-    if m < 0x3980_0000 {
-        return Turn {
+    if permitted(x) {
+        let m = f32::to_bits(x) % 0x8000_0000;
+        if m < 0x3980_0000 {
+            1
+        } else {
+            fixed::fixed_of(m)
+        }
+    } else {
+        0
+    }
+}
+
+// Sine and cosine of x, by its count and what the whole numbers give for that.
+pub(crate) fn turned(x: f32, n: u64, both: fixed::Pair) -> Turn
+    requires { ⌜ (n ≡ count x) × (both .sine ≡ fixedSine n) × (both .cosine ≡ fixedCosine n) ⌝ }
+    ensures { λ r. ⌜ r ≡ turn x ⌝ }
+{
+    if n == 0 {
+        Turn {
+            sine: 0.0,
+            cosine: 0.0,
+        }
+    } else if n == 1 {
+        Turn {
             sine: x,
             cosine: 1.0,
-        };
-    }
-    let both = fixed::both(fixed::fixed_of(m));
-    Turn {
-        sine: fixed::counted(last_place_of(b), both.sine),
-        cosine: fixed::counted(LAST_PLACE, both.cosine),
+        }
+    } else {
+        Turn {
+            sine: fixed::counted(last_place_of(f32::to_bits(x)), both.sine),
+            cosine: fixed::counted(LAST_PLACE, both.cosine),
+        }
     }
 }

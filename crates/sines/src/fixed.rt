@@ -4,7 +4,8 @@ use crate::table;
 ghost use mathlib.Core.Path.{_≡_};
 ghost use Prim.Native.Nat.{_+_, _-_, _*_, _/_, _≤_, _<_};
 ghost use Rattle.sines.specs.How.{sixteen, eighth, tableOne, restOne, lineFactor, resultOne, surplus, tinyBits, sixteenBits};
-ghost use Rattle.sines.specs.How.{fixed, square, even, odd, PartsOf, sineSum, cosineSum, fixedSine, fixedCosine, counted};
+ghost use Rattle.sines.specs.How.{sineEntry, cosineEntry, fixed, eighths, square, even, odd, sineSum, cosineSum};
+ghost use Rattle.sines.specs.How.{fixedSine, fixedCosine, counted, entryAt};
 
 // An eighth, as a count of the argument's unit, 2^-35.
 const EIGHTH: u64 = 0x1_0000_0000;
@@ -95,47 +96,42 @@ fn cosine_sum(s: u64, c: u64, a: u64, b: u64) -> u64
     (low + c * a - s * b + HALF_RESULT_UNIT) / RESULT_UNIT
 }
 
-// An angle as whole eighths and a rest: sine and cosine of the eighths, as the table has them, then
-// cosine and sine of the rest.
-pub struct Parts {
-    pub s: u64,
-    pub c: u64,
-    pub a: u64,
-    pub b: u64,
-}
-
-// The parts of x in units of 2^-35, up to 16.
-fn taken_apart(x: u64) -> Parts
-    requires { ⌜ x ≤ sixteen ⌝ }
-    ensures { λ p. ⌜ PartsOf x (p .s) (p .c) (p .a) (p .b) ⌝ }
-{
-    let at = table::entry((x / EIGHTH) as u32);
-    let r = x % EIGHTH;
-    let q = square_of(r);
-    Parts {
-        s: at.0 as u64,
-        c: at.1 as u64,
-        a: even_part(q),
-        b: odd_part(r, q),
-    }
-}
-
 // A sine and a cosine in units of 2^-24, plus the surplus.
 pub struct Pair {
     pub sine: u64,
     pub cosine: u64,
 }
 
-// Both of x in units of 2^-35, up to 16.
+// What the table has at the whole eighths of x in units of 2^-35, up to 16.
+pub fn entry_of(x: u64) -> table::Eighths
+    requires { ⌜ x ≤ sixteen ⌝ }
+    ensures { λ r. ⌜ r ≡ entryAt x ⌝ }
+{
+    table::entry((x / EIGHTH) as u32)
+}
+
+// Both of x in units of 2^-35, up to 16, by what the table has at its whole eighths.
+pub fn both_at(x: u64, s: u32, c: u32) -> Pair
+    requires { ⌜ (x ≤ sixteen) × (s ≡ sineEntry (eighths x)) × (c ≡ cosineEntry (eighths x)) ⌝ }
+    ensures { λ w. ⌜ (w .sine ≡ fixedSine x) × (w .cosine ≡ fixedCosine x) ⌝ }
+{
+    let r = x % EIGHTH;
+    let q = square_of(r);
+    let a = even_part(q);
+    let b = odd_part(r, q);
+    Pair {
+        sine: sine_sum(s as u64, c as u64, a, b),
+        cosine: cosine_sum(s as u64, c as u64, a, b),
+    }
+}
+
+// The same.
 pub fn both(x: u64) -> Pair
     requires { ⌜ x ≤ sixteen ⌝ }
     ensures { λ w. ⌜ (w .sine ≡ fixedSine x) × (w .cosine ≡ fixedCosine x) ⌝ }
 {
-    let p = taken_apart(x);
-    Pair {
-        sine: sine_sum(p.s, p.c, p.a, p.b),
-        cosine: cosine_sum(p.s, p.c, p.a, p.b),
-    }
+    let at = entry_of(x);
+    both_at(x, at.0, at.1)
 }
 
 // So many of the last place, from a number with the surplus.

@@ -9,6 +9,7 @@ ghost use Rattle.sines.specs.Entries.{sineTold, cosineTold};
 ghost use Rattle.sines.specs.Bands.{SineOf, CosineOf};
 
 pub mod core;
+pub mod eighteen;
 mod fixed;
 mod table;
 

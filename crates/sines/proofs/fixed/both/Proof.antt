@@ -1,24 +1,22 @@
--- `sines::fixed::both` meets its contract: the two sums of the parts.
+-- `sines::fixed::both` meets its contract, by what the table has at the whole eighths.
 use borrow.Author.Needs.{needs}
-use mathlib.Core.Path.{_∙_}
-use Rattle.sines.proofs.Entries.{sine-of-parts, cosine-of-parts}
+use mathlib.Core.Path.{ap}
+use Rattle.sines.specs.declared.table.Eighths.{Eighths}
 use Rattle.sines.proofs.fixed.both.Statement.{statement}
 use Rattle.sines.proofs.fixed.both.Tie as tie
 
-taken-apart-requires : tie.Need-taken-apart-requires
-taken-apart-requires c κs = search needs
+entry-of-requires : tie.Need-entry-of-requires
+entry-of-requires c κs = search needs
 
-sine-sum-requires : tie.Need-sine-sum-requires
-sine-sum-requires c κs = search needs
-
-cosine-sum-requires : tie.Need-cosine-sum-requires
-cosine-sum-requires c κs = search needs
-
-returns : tie.Need-returns
-returns c = (
-  c .before .sine-sum .ensures ∙ sine-of-parts _ _ _ _ _ (c .before .before .taken-apart .ensures),
-  c .cosine-sum .ensures ∙ cosine-of-parts _ _ _ _ _ (c .before .before .taken-apart .ensures),
+both-at-requires : tie.Need-both-at-requires
+both-at-requires c κs = (
+  c .before .pre,
+  ap (λ (e : Eighths). e .0) (c .entry-of .ensures),
+  ap (λ (e : Eighths). e .1) (c .entry-of .ensures),
 )
 
+returns : tie.Need-returns
+returns c = search needs
+
 pub both-spec : {M : Type 1} → statement M
-both-spec = tie.close (tie.spec taken-apart-requires sine-sum-requires cosine-sum-requires returns)
+both-spec = tie.close (tie.spec entry-of-requires both-at-requires returns)
