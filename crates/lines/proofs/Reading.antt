@@ -8,8 +8,8 @@ use native.Mathlib.Nat.{pow-zero, pow-suc, pow-succ', mul-one, mul-assoc}
 use native.Mathlib.Nat.{add-zero, mul-le-mul-left, mod-lt, pow-le-pow-right, lt-of-lt-of-le}
 use native.Mathlib.Numerals.{add-one}
 use native.Mathlib.Omega.{arith}
-use lib.Dec.{eqb, leb, lit<, lit≤}
-use borrow.Author.Tests.{leb-true, eq-eqb, ne-eqb}
+use lib.Dec.{eqb, leb, ltb, lit<, lit≤}
+use borrow.Author.Tests.{leb-true, ltb-true, eq-eqb, ne-eqb}
 use lib.ListN.{length, getD, drop, drop-of-length-le}
 use lib.Seq.{drop-cons}
 use Rattle.lines.specs.declared.digits.Digits.{Digits}
@@ -109,6 +109,27 @@ eight-passed s at sep h t =
 pub read-end : (s : List ℕ) (i : ℕ) → length s ≤ i → (base : ℕ) (a : Digits) → pushAll base a (drop i s) ≡ a
 unfolding pushAll
 read-end s i h base a = ap (pushAll base a) (drop-of-length-le s h)
+
+-- where all bytes are hex digits, so is the next, and the number is read without a test
+abbrev pub known : ℕ → Digits
+known v = record { good = true; value = v }
+
+started-good : (base : ℕ) (a : Digits) (s : List ℕ) → pushAll base a s .good ≡ true → a .good ≡ true
+unfolding pushAll push
+started-good base a [] h = h
+started-good base a (b ∷ s) h = and-left (a .good) (ltb (valueOf b) base) (started-good base (push base a b) s h)
+
+pub known-next : (s : List ℕ) (i v : ℕ) → i < length s → readIn 16 s .good ≡ true → pushAll 16 (known v) (drop i s) ≡ readIn 16 s
+    → (valueOf (getD s i 0) < 16) × (pushAll 16 (known (v * 16 + valueOf (getD s i 0) % 16)) (drop (i + 1) s) ≡ readIn 16 s)
+unfolding push
+known-next s i v h good so-far =
+    let b = getD s i 0 in
+    let next : pushAll 16 (push 16 (known v) b) (drop (i + 1) s) ≡ readIn 16 s = sym (read-step s i h 16 (known v)) ∙ so-far in
+    let digit : ltb (valueOf b) 16 ≡ true =
+    started-good 16 (push 16 (known v) b) (drop (i + 1) s) (ap (λ (d : Digits). d .good) next ∙ good) in (
+      ltb-true (valueOf b) 16 digit,
+      ap (λ (t : Bool). pushAll 16 (record { good = t; value = v * 16 + valueOf b % 16 }) (drop (i + 1) s)) (sym digit) ∙ next,
+    )
 
 -- k digits of a base of at most sixteen stay below 16 ^ k
 pub push-below : (base : ℕ) (a : Digits) (b k : ℕ) → base ≤ 16 → a .value < 16 ^ k → push base a b .value < 16 ^ (k + 1)

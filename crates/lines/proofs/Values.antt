@@ -7,7 +7,7 @@ use mathlib.Core.Logic.{⊎-elim}
 use Prim.Native.Nat.{ℕ, _+_, _-_, _≤_, _<_}
 use native.Mathlib.Omega.{arith}
 use lib.Dec.{leb, ltb}
-use borrow.Author.Tests.{lt-ltb, le-ltb, le-leb, lt-leb, leb-true}
+use borrow.Author.Tests.{lt-ltb, le-ltb, le-leb, lt-leb, leb-true, ltb-true, ltb-false}
 use Rattle.numbers.specs.Told.{choose}
 use Rattle.lines.specs.Digits.{digit, valueOf}
 use Rattle.numbers.proofs.OnePass.{and-left, and-right}
@@ -42,6 +42,22 @@ digit-of-value b =
     let low : 97 ≤ b = leb-true 97 b (and-left (leb 97 b) (leb b 102) e′) in
     simp (le-ltb (b - 87) 10 (omega arith)) (omega arith))
     (λ e′ h. absurd (omega arith)))
+
+-- the byte of a digit below ten, and above
+module _ (b : ℕ) (h : valueOf b < 16) where
+  pub low-byte : b ≤ 57 → b ≡ 48 + valueOf b
+  unfolding digit
+  low-byte low =
+      let d = valueOf b in
+      chosen (λ (x : ℕ). x ≡ b → b ≡ 48 + d) (ltb d 10) (48 + d) (87 + d) (λ t e. sym e)
+      (λ t e. let high : 10 ≤ d = ltb-false d 10 t in absurd (omega arith)) (digit-of-value b h)
+
+  pub high-byte : 57 < b → b ≡ 87 + valueOf b
+  unfolding digit
+  high-byte high =
+      let d = valueOf b in
+      chosen (λ (x : ℕ). x ≡ b → b ≡ 87 + d) (ltb d 10) (48 + d) (87 + d)
+      (λ t e. let low : d < 10 = ltb-true d 10 t in absurd (omega arith)) (λ t e. sym e) (digit-of-value b h)
 
 -- what holds of no bytes, and of one byte more wherever it holds, holds of every text
 onward : (P : List ℕ → Type 0) → ((s : List ℕ) (b : ℕ) → P s → P (s ++ (b ∷ []))) → (t s : List ℕ) → P s → P (s ++ t)

@@ -1,5 +1,5 @@
 -- How ours reads a line: by the places of its parts. (That a line is accepted exactly where it is the written form is proved.)
-use Prim.Native.Nat.{ℕ, zero, suc, _+_}
+use Prim.Native.Nat.{ℕ, zero, suc}
 use mathlib.Core.Bool.{Bool, true, false, _&&_}
 use mathlib.Core.List.{List, [], _∷_}
 use lib.Dec.{eqb, ltb}
@@ -8,18 +8,10 @@ use Rattle.numbers.specs.Told.{choose}
 use Rattle.lines.specs.Digits.{hexOf, countOf}
 use Rattle.lines.specs.Fields.{tab}
 use Rattle.lines.specs.declared.fields.Field.{Field}
-use Rattle.lines.specs.declared.fields.Three.{Three}
 
 -- a tab and eight hex digits at the front of a text
 unfoldable pub tabbed : List ℕ → Field
 tabbed s = record { good = eqb (getD s 0 0) tab && hexOf 8 8 (take 8 (drop 1 s)) .good; bits = hexOf 8 8 (take 8 (drop 1 s)) .value }
-
--- three of them, from a place of a text on
-abbrev pub gathered : Field → Field → Field → Three
-gathered x y z = record { good = x .good && y .good && z .good; x = x .bits; y = y .bits; z = z .bits }
-
-abbrev pub threeAt : List ℕ → ℕ → Three
-threeAt s at = gathered (tabbed (drop at s)) (tabbed (drop (at + 9) s)) (tabbed (drop (at + 9 + 9) s))
 
 -- k of them, one behind the other
 unfoldable pub tabbeds : ℕ → List ℕ → List Field

@@ -1,6 +1,7 @@
 // Digits read from bytes: lower-case hex, and decimal counts with no leading zero.
 ghost use mathlib.Core.Path.{_≡_};
-ghost use Prim.Native.Nat.{_≤_, _<_, _^_};
+ghost use mathlib.Core.Bool.{true};
+ghost use Prim.Native.Nat.{_+_, _*_, _%_, _≤_, _<_, _^_};
 ghost use lib.ListN.{length};
 ghost use Rattle.lines.specs.Digits.{valueOf, push, readIn, hexOf, countOf, noDigits};
 
@@ -72,6 +73,53 @@ pub fn hex(s: &[u8], least: usize, most: usize) -> Digits
     } else {
         no_digits()
     }
+}
+
+// Whether all bytes are lower-case hex digits.
+pub(crate) fn all_hex(s: &[u8]) -> bool
+    ensures { λ r. ⌜ r ≡ readIn 16 (now (s .entry)) .good ⌝ }
+{
+    let mut good = true;
+    let mut i = 0;
+    while i < s.len() {
+        good = good & (digit_of(s[i]) < 16);
+        i += 1;
+    }
+    good
+}
+
+// The value of a lower-case hex digit, quicker: its byte is known to be one.
+fn known_digit(b: u8) -> u64
+    requires { ⌜ valueOf b < 16 ⌝ }
+    ensures { λ r. ⌜ r ≡ valueOf b ⌝ }
+{
+    if 57 < b {
+        (b - 87) as u64
+    } else {
+        (b - 48) as u64
+    }
+}
+
+// One known digit more.
+fn pushed_known(v: u64, b: u8) -> u64
+    requires { ⌜ (v < 2 ^ 60) × (valueOf b < 16) ⌝ }
+    ensures { λ r. ⌜ r ≡ v * 16 + valueOf b % 16 ⌝ }
+{
+    v * 16 + known_digit(b)
+}
+
+// The number of at most sixteen bytes that are known to be lower-case hex digits.
+pub(crate) fn spelt(s: &[u8]) -> u64
+    requires { ⌜ (length (now s) ≤ 16) × (readIn 16 (now s) .good ≡ true) ⌝ }
+    ensures { λ r. ⌜ r ≡ readIn 16 (now (s .entry)) .value ⌝ }
+{
+    let mut v = 0;
+    let mut i = 0;
+    while i < s.len() {
+        v = pushed_known(v, s[i]);
+        i += 1;
+    }
+    v
 }
 
 // A decimal count: one to `limit` digits, never more than nine, and no leading zero.

@@ -5,7 +5,7 @@ ghost use mathlib.Core.Bool.{true};
 ghost use Prim.Native.Nat.{_+_, _≤_};
 ghost use lib.ListN.{length, drop};
 ghost use Rattle.lines.specs.Fields.{fieldEnd};
-ghost use Rattle.lines.specs.Parts.{tabbed, threeAt, shortOf};
+ghost use Rattle.lines.specs.Parts.{tabbed, shortOf};
 
 // A number read from a field, and whether the field was good.
 pub struct Field {
@@ -60,34 +60,24 @@ pub fn field_end(s: &[u8], from: usize, separator: u8) -> usize
     i
 }
 
-// The tab at a place and the eight hex digits after it.
-pub(crate) fn tabbed(s: &[u8], at: usize) -> Field
+// Whether a tab stands at a place and eight hex digits after it.
+pub(crate) fn is_tabbed(s: &[u8], at: usize) -> bool
     requires { ⌜ at + 9 ≤ length (now s) ⌝ }
-    ensures { λ r. ⌜ r ≡ tabbed (drop at (now (s .entry))) ⌝ }
+    ensures { λ r. ⌜ r ≡ tabbed (drop at (now (s .entry))) .good ⌝ }
 {
     let a = at + 1;
     let e = at + 9;
-    let d = digits::hex(&s[a..e], 8, 8);
-    Field {
-        good: (s[at] == 9) & d.good,
-        bits: d.value as u32,
-    }
+    (s[at] == 9) & digits::all_hex(&s[a..e])
 }
 
-// Three patterns from a place on, each after a tab.
-pub(crate) fn three_at(s: &[u8], at: usize) -> Three
-    requires { ⌜ at + 27 ≤ length (now s) ⌝ }
-    ensures { λ r. ⌜ r ≡ threeAt (now (s .entry)) at ⌝ }
+// The number of the eight hex digits after a tab, where they are known to be that.
+pub(crate) fn bits_at(s: &[u8], at: usize) -> u32
+    requires { ⌜ (at + 9 ≤ length (now s)) × (tabbed (drop at (now s)) .good ≡ true) ⌝ }
+    ensures { λ r. ⌜ r ≡ tabbed (drop at (now (s .entry))) .bits ⌝ }
 {
-    let x = tabbed(s, at);
-    let y = tabbed(s, at + 9);
-    let z = tabbed(s, at + 9 + 9);
-    Three {
-        good: x.good & y.good & z.good,
-        x: x.bits,
-        y: y.bits,
-        z: z.bits,
-    }
+    let a = at + 1;
+    let e = at + 9;
+    digits::spelt(&s[a..e]) as u32
 }
 
 // A line of a letter, a tab and a count, apart from which letter it is.

@@ -4,11 +4,13 @@ use crate::fields;
 use crate::fields::Field;
 use crate::put;
 ghost use mathlib.Core.Path.{_≡_};
+ghost use mathlib.Core.Bool.{true};
 ghost use mathlib.Core.List.{[]};
 ghost use Prim.Native.Nat.{_+_, _≤_};
-ghost use lib.ListN.{length, getD};
+ghost use lib.ListN.{length, getD, drop};
 ghost use Rattle.numbers.specs.Told.{choose};
-ghost use Rattle.lines.specs.Reading.{named, headerOf, moveOf, lineOf};
+ghost use Rattle.lines.specs.Parts.{tabbeds, allGood, bitsOf};
+ghost use Rattle.lines.specs.Reading.{named, headerOf, moved, moveOf, lineOf};
 ghost use Rattle.numbers.specs.Stored.{Stored};
 ghost use Rattle.lines.specs.Lines.{written, ended, lettered, hasRoom, countDigits};
 
@@ -151,6 +153,27 @@ fn header_of(s: &[u8]) -> Field
     }
 }
 
+// Whether a tab and eight hex digits stand at a place three times.
+fn three_tabbed(s: &[u8], at: usize) -> bool
+    requires { ⌜ at + 27 ≤ length (now s) ⌝ }
+    ensures { λ r. ⌜ r ≡ allGood true (tabbeds 3 (drop at (now (s .entry)))) ⌝ }
+{
+    fields::is_tabbed(s, at) & fields::is_tabbed(s, at + 9) & fields::is_tabbed(s, at + 9 + 9)
+}
+
+// A step of a count and the three patterns at a place.
+fn moved_to(count: u32, s: &[u8], at: usize) -> Moved
+    requires { ⌜ (at + 27 ≤ length (now s)) × (allGood true (tabbeds 3 (drop at (now s))) ≡ true) ⌝ }
+    ensures { λ r. ⌜ r ≡ moved count (bitsOf (tabbeds 3 (drop at (now (s .entry))))) ⌝ }
+{
+    Moved {
+        count,
+        x: fields::bits_at(s, at),
+        y: fields::bits_at(s, at + 9),
+        z: fields::bits_at(s, at + 9 + 9),
+    }
+}
+
 // The line of a step: its three patterns are the last 27 bytes.
 fn move_of(s: &[u8], limit: usize) -> Found
     ensures { λ r. ⌜ r ≡ moveOf limit (now (s .entry)) ⌝ }
@@ -162,15 +185,11 @@ fn move_of(s: &[u8], limit: usize) -> Found
     let a: usize = 2;
     let e = n - 27;
     let d = digits::count(&s[a..e], limit);
-    let p = fields::three_at(s, e);
-    let good = (s[0] == b'M') & (s[1] == 9) & d.good & p.good;
-    let line = Line::Move(Moved {
-        count: d.value as u32,
-        x: p.x,
-        y: p.y,
-        z: p.z,
-    });
-    known(good, line)
+    if (s[0] == b'M') & (s[1] == 9) & d.good & three_tabbed(s, e) {
+        Found::Known(Line::Move(moved_to(d.value as u32, s, e)))
+    } else {
+        Found::NoLine
+    }
 }
 
 // The line that some bytes are, without their newline. Counts have at most `limit` digits, which is `count_digits` of the listing's

@@ -4,7 +4,10 @@ use crate::fields::Three;
 use numbers::patterns;
 use numbers::patterns::Pattern;
 ghost use mathlib.Core.Path.{_≡_};
-ghost use Rattle.lines.specs.Record.{recordOf, placeOf, walkFrom, shownBits};
+ghost use mathlib.Core.Bool.{true};
+ghost use lib.ListN.{length, drop};
+ghost use Rattle.lines.specs.Parts.{tabbeds, allGood, bitsOf};
+ghost use Rattle.lines.specs.Record.{recordOf, placeOf, walkFrom, walkOf, shownBits};
 
 // Three coordinates, in metres.
 pub struct Place {
@@ -33,14 +36,49 @@ pub fn record_of(s: &[u8]) -> Asked
     if s.len() != 64 {
         return Asked::NoRecord;
     }
-    let m = fields::tabbed(s, 1);
-    let start = fields::three_at(s, 10);
-    let target = fields::three_at(s, 37);
-    if (s[0] == b'W') & m.good & start.good & target.good {
-        Asked::Record(walk_of(m.bits, start, target))
+    if s[0] != b'W' {
+        return Asked::NoRecord;
+    }
+    if seven_tabbed(s) {
+        Asked::Record(walk_in(s))
     } else {
         Asked::NoRecord
     }
+}
+
+// Whether a tab and eight hex digits follow the letter seven times.
+fn seven_tabbed(s: &[u8]) -> bool
+    requires { ⌜ length (now s) ≡ 64 ⌝ }
+    ensures { λ r. ⌜ r ≡ allGood true (tabbeds 7 (drop 1 (now (s .entry)))) ⌝ }
+{
+    fields::is_tabbed(s, 1)
+        & fields::is_tabbed(s, 10)
+        & fields::is_tabbed(s, 19)
+        & fields::is_tabbed(s, 28)
+        & fields::is_tabbed(s, 37)
+        & fields::is_tabbed(s, 46)
+        & fields::is_tabbed(s, 55)
+}
+
+// The walk of a line that is a record.
+fn walk_in(s: &[u8]) -> Walk
+    requires { ⌜ (length (now s) ≡ 64) × (allGood true (tabbeds 7 (drop 1 (now s))) ≡ true) ⌝ }
+    ensures { λ r. ⌜ r ≡ walkOf (bitsOf (tabbeds 7 (drop 1 (now (s .entry))))) ⌝ }
+{
+    let max_move = fields::bits_at(s, 1);
+    let start = Three {
+        good: true,
+        x: fields::bits_at(s, 10),
+        y: fields::bits_at(s, 19),
+        z: fields::bits_at(s, 28),
+    };
+    let target = Three {
+        good: true,
+        x: fields::bits_at(s, 37),
+        y: fields::bits_at(s, 46),
+        z: fields::bits_at(s, 55),
+    };
+    walk_of(max_move, start, target)
 }
 
 // The place of three patterns.

@@ -1,9 +1,13 @@
 -- `lines::listed::move_of` meets its contract. The three patterns are the last 27 bytes.
-use mathlib.Core.Path.{_∙_}
+use mathlib.Core.Path.{ap, _∙_}
+use native.Mathlib.Omega.{arith}
 use borrow.Author.Tests.{lt-ltb}
+use Rattle.lines.specs.declared.listed.Moved.{Moved}
+use Rattle.lines.specs.declared.listed.Line.the-variants.{Move}
+use Rattle.lines.specs.declared.listed.Found.the-variants.{Known}
 use Rattle.lines.specs.Reading.{moveOf}
 use Rattle.lines.proofs.Reading.{count-fits}
-use Rattle.lines.proofs.Places.{move-is}
+use Rattle.lines.proofs.Places.{fields-good, move-yes, move-no}
 use borrow.Author.Needs.{needs}
 use Rattle.lines.proofs.listed.move_of.Statement.{statement}
 use Rattle.lines.proofs.listed.move_of.Tie as tie
@@ -27,30 +31,40 @@ part-count-end c = search needs
 count-requires : tie.Need-count-requires
 count-requires c κs = search needs
 
-three-at-requires : tie.Need-three-at-requires
-three-at-requires c κs = search needs
+shared-slice-read-if2 : tie.Need-shared-slice-read-if2
+shared-slice-read-if2 c = search needs
 
-shared-slice-read-good : tie.Need-shared-slice-read-good
-shared-slice-read-good c = search needs
+shared-slice-read-if2-2 : tie.Need-shared-slice-read-if2-2
+shared-slice-read-if2-2 c = search needs
 
-shared-slice-read-good-2 : tie.Need-shared-slice-read-good-2
-shared-slice-read-good-2 c = search needs
+three-tabbed-requires : tie.Need-three-tabbed-requires
+three-tabbed-requires c κs = search needs
 
-cast-t22 : tie.Need-cast-t22
-cast-t22 c = record { fits = rw (c .before .before .before .before .before .before .count .ensures) (count-fits _ _) }
+cast-moved-to : tie.Need-cast-moved-to
+cast-moved-to c = record { fits = rw (c .before .before .before .before .before .before .count .ensures) (count-fits _ _) }
 
-known-requires : tie.Need-known-requires
-known-requires c κs = search needs
+moved-to-requires : tie.Need-moved-to-requires
+moved-to-requires c κs = (
+  omega arith,
+  fields-good (c .before .before .before .before .before .before .before .before .before .before .args .s .now)
+      (c .before .before .before .before .before .before .before .before .before .before .args .limit)
+      (c .before .before .before .before .before .before .before .before .if1 .left) _ (c .before .before .before .before .before .before .count .ensures) _
+      (c .before .before .three-tabbed .ensures) (c .before .if2 .taken),
+)
 
 returns-2 : tie.Need-returns-2
 returns-2 c =
-    c .known .ensures ∙ simp (
-      c .before .before .before .before .before .before .before .count .ensures,
-      c .before .before .before .before .before .before .three-at .ensures,
-    )
-    (move-is (c .before .before .before .before .before .before .before .before .before .before .before .args .s .now)
+    ap (λ (m : Moved). Known (Move m)) (c .moved-to .ensures)
+    ∙ move-yes (c .before .before .before .before .before .before .before .before .before .before .before .args .s .now)
     (c .before .before .before .before .before .before .before .before .before .before .before .args .limit)
-    (c .before .before .before .before .before .before .before .before .before .if1 .left))
+    (c .before .before .before .before .before .before .before .before .before .if1 .left) _ (c .before .before .before .before .before .before .before .count .ensures) _
+    (c .before .before .before .three-tabbed .ensures) (c .before .before .if2 .taken)
+
+returns-3 : tie.Need-returns-3
+returns-3 c =
+    move-no (c .before .before .before .before .before .before .before .before .before .args .s .now)
+    (c .before .before .before .before .before .before .before .before .before .args .limit) (c .before .before .before .before .before .before .before .if1 .left) _
+    (c .before .before .before .before .before .count .ensures) _ (c .before .three-tabbed .ensures) (c .if2 .left)
 
 pub move-of-spec : {M : Type 1} → statement M
 move-of-spec =
@@ -62,9 +76,10 @@ move-of-spec =
     part-count-start
     part-count-end
     count-requires
-    three-at-requires
-    shared-slice-read-good
-    shared-slice-read-good-2
-    cast-t22
-    known-requires
-    returns-2)
+    shared-slice-read-if2
+    shared-slice-read-if2-2
+    three-tabbed-requires
+    cast-moved-to
+    moved-to-requires
+    returns-2
+    returns-3)
