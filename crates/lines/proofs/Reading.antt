@@ -119,7 +119,7 @@ unfolding pushAll push
 started-good base a [] h = h
 started-good base a (b ∷ s) h = and-left (a .good) (ltb (valueOf b) base) (started-good base (push base a b) s h)
 
-pub known-next : (s : List ℕ) (i v : ℕ) → i < length s → readIn 16 s .good ≡ true → pushAll 16 (known v) (drop i s) ≡ readIn 16 s
+known-next : (s : List ℕ) (i v : ℕ) → i < length s → readIn 16 s .good ≡ true → pushAll 16 (known v) (drop i s) ≡ readIn 16 s
     → (valueOf (getD s i 0) < 16) × (pushAll 16 (known (v * 16 + valueOf (getD s i 0) % 16)) (drop (i + 1) s) ≡ readIn 16 s)
 unfolding push
 known-next s i v h good so-far =
@@ -130,6 +130,15 @@ known-next s i v h good so-far =
       ltb-true (valueOf b) 16 digit,
       ap (λ (t : Bool). pushAll 16 (record { good = t; value = v * 16 + valueOf b % 16 }) (drop (i + 1) s)) (sym digit) ∙ next,
     )
+
+pub known-two : (s : List ℕ) (i v : ℕ) → i + 1 < length s → readIn 16 s .good ≡ true → pushAll 16 (known v) (drop i s) ≡ readIn 16 s
+    → (valueOf (getD s i 0) < 16) × (valueOf (getD s (i + 1) 0) < 16)
+    × (pushAll 16 (known ((v * 16 + valueOf (getD s i 0) % 16) * 16 + valueOf (getD s (i + 1) 0) % 16)) (drop (i + 1 + 1) s)
+    ≡ readIn 16 s)
+known-two s i v h good so-far =
+    let one = known-next s i v (omega arith) good so-far in
+    let two = known-next s (i + 1) (v * 16 + valueOf (getD s i 0) % 16) h good (one .1) in
+    (one .0, two .0, two .1)
 
 -- k digits of a base of at most sixteen stay below 16 ^ k
 pub push-below : (base : ℕ) (a : Digits) (b k : ℕ) → base ≤ 16 → a .value < 16 ^ k → push base a b .value < 16 ^ (k + 1)
@@ -144,6 +153,17 @@ pub room : (v k : ℕ) → v < 16 ^ k → k < 16 → v < 2 ^ 60
 room v k below few =
     let m : 16 ^ k ≤ 16 ^ 15 = pow-le-pow-right (lit< tt) {i = k} {j = 15} (omega arith) in
     omega arith
+
+-- a number with room for two more
+pub room-for-two : (v k : ℕ) → v < 16 ^ k → k ≤ 14 → v < 2 ^ 56
+room-for-two v k below few =
+    let m : 16 ^ k ≤ 16 ^ 14 = pow-le-pow-right (lit< tt) {i = k} {j = 14} few in
+    omega arith
+
+pub two-below : (v a b k : ℕ) → v < 16 ^ k → (v * 16 + valueOf a % 16) * 16 + valueOf b % 16 < 16 ^ (k + 1 + 1)
+unfolding push
+two-below v a b k below =
+    push-below 16 (known (v * 16 + valueOf a % 16)) b (k + 1) (lit≤ tt) (push-below 16 (known v) a k (lit≤ tt) below)
 
 pub read-below : (base : ℕ) (s : List ℕ) (a : Digits) (k : ℕ) → base ≤ 16 → a .value < 16 ^ k
     → pushAll base a s .value < 16 ^ (k + length s)

@@ -4,10 +4,10 @@ use mathlib.Core.Path.{_≡_, refl, ap, _∙_, sym, subst}
 use mathlib.Core.Bool.{Bool, true, false, _&&_}
 use mathlib.Core.List.{List, [], _∷_, _++_, append-nil, append-assoc}
 use mathlib.Core.Logic.{⊎-elim}
-use Prim.Native.Nat.{ℕ, _+_, _-_, _≤_, _<_}
+use Prim.Native.Nat.{ℕ, _+_, _-_, _*_, _/_, _%_, _≤_, _<_}
 use native.Mathlib.Omega.{arith}
 use lib.Dec.{leb, ltb}
-use borrow.Author.Tests.{lt-ltb, le-ltb, le-leb, lt-leb, leb-true, ltb-true, ltb-false}
+use borrow.Author.Tests.{lt-ltb, le-ltb, le-leb, lt-leb, leb-true}
 use Rattle.numbers.specs.Told.{choose}
 use Rattle.lines.specs.Digits.{digit, valueOf}
 use Rattle.numbers.proofs.OnePass.{and-left, and-right}
@@ -43,21 +43,22 @@ digit-of-value b =
     simp (le-ltb (b - 87) 10 (omega arith)) (omega arith))
     (λ e′ h. absurd (omega arith)))
 
--- the byte of a digit below ten, and above
-module _ (b : ℕ) (h : valueOf b < 16) where
-  pub low-byte : b ≤ 57 → b ≡ 48 + valueOf b
-  unfolding digit
-  low-byte low =
-      let d = valueOf b in
-      chosen (λ (x : ℕ). x ≡ b → b ≡ 48 + d) (ltb d 10) (48 + d) (87 + d) (λ t e. sym e)
-      (λ t e. let high : 10 ≤ d = ltb-false d 10 t in absurd (omega arith)) (digit-of-value b h)
-
-  pub high-byte : 57 < b → b ≡ 87 + valueOf b
-  unfolding digit
-  high-byte high =
-      let d = valueOf b in
-      chosen (λ (x : ℕ). x ≡ b → b ≡ 87 + d) (ltb d 10) (48 + d) (87 + d)
-      (λ t e. let low : d < 10 = ltb-true d 10 t in absurd (omega arith)) (λ t e. sym e) (digit-of-value b h)
+-- letters have the bit of 64, and nine more than their lowest four bits
+pub digit-by-bits : (b : ℕ) → valueOf b < 16 → b % 16 + b / 64 * 9 ≡ valueOf b
+unfolding valueOf
+digit-by-bits b =
+    chosen (λ (v : ℕ). v < 16 → b % 16 + b / 64 * 9 ≡ v) (leb 48 b && leb b 57) (b - 48) (choose (leb 97 b && leb b 102) (b - 87) 16)
+    (λ e h.
+    let low : 48 ≤ b = leb-true 48 b (and-left (leb 48 b) (leb b 57) e) in
+    let high : b ≤ 57 = leb-true b 57 (and-right (leb 48 b) (leb b 57) e) in
+    omega arith)
+    (λ e.
+    chosen (λ (v : ℕ). v < 16 → b % 16 + b / 64 * 9 ≡ v) (leb 97 b && leb b 102) (b - 87) 16
+    (λ e′ h.
+    let low : 97 ≤ b = leb-true 97 b (and-left (leb 97 b) (leb b 102) e′) in
+    let high : b ≤ 102 = leb-true b 102 (and-right (leb 97 b) (leb b 102) e′) in
+    omega arith)
+    (λ e′ h. absurd (omega arith)))
 
 -- what holds of no bytes, and of one byte more wherever it holds, holds of every text
 onward : (P : List ℕ → Type 0) → ((s : List ℕ) (b : ℕ) → P s → P (s ++ (b ∷ []))) → (t s : List ℕ) → P s → P (s ++ t)

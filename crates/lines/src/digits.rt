@@ -88,36 +88,32 @@ pub(crate) fn all_hex(s: &[u8]) -> bool
     good
 }
 
-// The value of a lower-case hex digit, quicker: its byte is known to be one.
+// The value of a lower-case hex digit without a test: its byte is known to be one. Letters have the bit of 64.
 fn known_digit(b: u8) -> u64
     requires { ⌜ valueOf b < 16 ⌝ }
     ensures { λ r. ⌜ r ≡ valueOf b ⌝ }
 {
-    if 57 < b {
-        (b - 87) as u64
-    } else {
-        (b - 48) as u64
-    }
+    (b % 16 + b / 64 * 9) as u64
 }
 
-// One known digit more.
-fn pushed_known(v: u64, b: u8) -> u64
-    requires { ⌜ (v < 2 ^ 60) × (valueOf b < 16) ⌝ }
-    ensures { λ r. ⌜ r ≡ v * 16 + valueOf b % 16 ⌝ }
+// Two known digits more.
+fn pushed_two(v: u64, a: u8, b: u8) -> u64
+    requires { ⌜ (v < 2 ^ 56) × (valueOf a < 16) × (valueOf b < 16) ⌝ }
+    ensures { λ r. ⌜ r ≡ (v * 16 + valueOf a % 16) * 16 + valueOf b % 16 ⌝ }
 {
-    v * 16 + known_digit(b)
+    (v * 16 + known_digit(a)) * 16 + known_digit(b)
 }
 
-// The number of at most sixteen bytes that are known to be lower-case hex digits.
+// The number of eight bytes that are known to be lower-case hex digits.
 pub(crate) fn spelt(s: &[u8]) -> u64
-    requires { ⌜ (length (now s) ≤ 16) × (readIn 16 (now s) .good ≡ true) ⌝ }
+    requires { ⌜ (length (now s) ≡ 8) × (readIn 16 (now s) .good ≡ true) ⌝ }
     ensures { λ r. ⌜ r ≡ readIn 16 (now (s .entry)) .value ⌝ }
 {
     let mut v = 0;
-    let mut i = 0;
-    while i < s.len() {
-        v = pushed_known(v, s[i]);
-        i += 1;
+    let mut k = 0;
+    while k < 4 {
+        v = pushed_two(v, s[2 * k], s[2 * k + 1]);
+        k += 1;
     }
     v
 }

@@ -32,7 +32,7 @@ spelt-requires c κs =
     let s = c .before .before .args .s .now in
     let at = c .before .before .args .at in
     let room : at + 9 ≤ length s = c .before .before .pre .0 in (
-      omega (arith, eight-behind s at room),
+      eight-behind s at room,
       and-right (eqb (getD s at 0) 9) (readIn 16 (behind s at room) .good)
           (ap (λ (f : Field). f .good) (sym (field-is s at room)) ∙ c .before .before .pre .1),
     )
