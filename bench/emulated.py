@@ -1,4 +1,4 @@
-"""Instructions of single calls on a board, by the emulator qemu-arm: what bench/libm/board.py and bench/wholes/board.py share.
+"""Instructions of single calls on a board, by the emulator qemu-arm: what bench/libm, bench/entries and bench/wholes share.
 A program for it reads its calls from standard input, makes them one by one in `make_calls`, and writes them back with their answers.
 Needs gcc-arm-none-eabi and qemu-user."""
 import subprocess

@@ -1,7 +1,7 @@
 #!/usr/bin/env python3
 """board.py LEVEL ENTRY NAME FOLDER WORDS [NAME FOLDER WORDS ..]
 Whole entries on a board, ours and the plain Rust reading's, from what bench/entries/board made in FOLDER. The program runs in the emulator
-qemu-arm, one instruction at a time, on inputs of the permitted range as bench/rust/side_by_side.rs draws them; every answer of ours is
+qemu-arm, on inputs of the permitted range as bench/rust/side_by_side.rs draws them; every answer of ours is
 judged by Rust's, as document 01 says (bench/judge.py). A line an entry: the mean instructions from the entry to the return, of a walk those
 of one of its steps, the ratio, its goal. Then each entry linked alone: bytes of code and tables, of those what the libraries of the
 compiler gave, and the deepest stack; and what of ours works on f64. The last line counts the goals missed. Status 1 where an answer is wrong
@@ -9,6 +9,7 @@ or ours has f64. WORDS are the compiler's, for linking. Where ENTRY is not empty
 the instructions of each function and the frames of the deepest stack, of both sides."""
 import bisect
 import collections
+import math
 import os
 import random
 import struct
@@ -140,7 +141,7 @@ def stance(spread):
 
 
 def configuration():
-    legs = [[x * 0.4, y * 0.4, 0.0, -judge.math.atan2(y, x), 2.6, 2.1] for x, y in AROUND]
+    legs = [[x * 0.4, y * 0.4, 0.0, -math.atan2(y, x), 2.6, 2.1] for x, y in AROUND]
     return [f32(c) for c in [0.052, 0.066, 0.135, 0.6, -0.4] + sum(legs, [])]
 
 

@@ -1,6 +1,6 @@
 #!/usr/bin/env python3
 """board.py TITLE PROGRAM [TITLE PROGRAM...]
-Runs programs made by bench/libm/board in the emulator qemu-arm, one instruction at a time, on 300 inputs a function from the
+Runs programs made by bench/libm/board in the emulator qemu-arm on 300 inputs a function from the
 whole permitted range, and judges every answer. A line a function: the mean instructions executed by ours and by libm's, from
 the entry to the return, the ratio, the fewest and the most of either. The last line counts the ratios above 1."""
 import collections

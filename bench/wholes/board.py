@@ -1,6 +1,6 @@
 #!/usr/bin/env python3
 """board.py TITLE PROGRAM
-Runs the program of board.c in the emulator qemu-arm, one instruction at a time: every progress once, heights and courses at random, each
+Runs the program of board.c in the emulator qemu-arm: every progress once, heights and courses at random, each
 step in whole numbers and in f32; some that are done, some that are refused. Every answer is judged: the whole step by its formulas, the
 f32 step by the whole one, from which it is between -0.1 and 1.1 units away. Prints the instructions of both, from the entry to the return:
 mean, fewest and most, the ratio of the means, and the largest ratio of one step. Status 1 where the ratio is above the goal."""
