@@ -80,6 +80,24 @@ pub fn nearer(d: f32, last: Point, target: Point, max_move: f32) -> Point
     }
 }
 
+// The step of a point that is not at its target: `nearer` at its distance. Each way is taken once, for the distance and for the step.
+pub fn onward(last: Point, target: Point, max_move: f32) -> Point
+    ensures { λ r. ⌜ r ≡ nearer (distance last target) last target «max_move» ⌝ }
+{
+    let x = target.x - last.x;
+    let y = target.y - last.y;
+    let z = target.z - last.z;
+    let d = roots::core::square_root(x * x + y * y + z * z);
+    if d <= max_move {
+        return target;
+    }
+    Point {
+        x: last.x + (x / d) * max_move,
+        y: last.y + (y / d) * max_move,
+        z: last.z + (z / d) * max_move,
+    }
+}
+
 // One step of at most max_move towards the target.
 pub fn move_towards(last: Point, target: Point, max_move: f32) -> MoveStep
     ensures { λ r. ⌜ r ≡ moveTowards last target «max_move» ⌝ }
@@ -87,7 +105,7 @@ pub fn move_towards(last: Point, target: Point, max_move: f32) -> MoveStep
     if is_same(last, target) {
         MoveStep::Arrived(target)
     } else {
-        MoveStep::Moved(nearer(distance(last, target), last, target, max_move))
+        MoveStep::Moved(onward(last, target, max_move))
     }
 }
 

@@ -10,7 +10,7 @@ returns c = simp (← c .before .is-same .ensures, c .if1 .taken)
 returns-2 : tie.Need-returns-2
 unfolding moveTowards stepAt
 returns-2 c =
-    simp (c .nearer .ensures, c .before .distance .ensures, ← c .before .before .before .is-same .ensures, c .before .before .if1 .left)
+    simp (c .onward .ensures, ← c .before .before .is-same .ensures, c .before .if1 .left)
 
 pub move-towards-spec : {M : Type 1} → statement M
-move-towards-spec = tie.close (tie.spec (λ _ _. tt) (λ _ _. tt) (λ _ _. tt) returns returns-2)
+move-towards-spec = tie.close (tie.spec (λ _ _. tt) (λ _ _. tt) returns returns-2)
