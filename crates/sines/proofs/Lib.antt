@@ -5,6 +5,8 @@ mod Rest
 pub mod Entries
 mod Turn
 mod Whole
+mod Differences
+mod SignedSums
 mod Filled
 mod Counts
 pub mod Unrounded

@@ -1,4 +1,4 @@
--- What leaves `fixed::both` becomes an f32 without rounding: less the surplus it is a whole number from -2 ^ 24 to 2 ^ 24, and f32 holds
+-- What leaves `fixed::both_at` becomes an f32 without rounding: less the surplus it is a whole number from -2 ^ 24 to 2 ^ 24, and f32 holds
 -- that number and so many 2 ^ -24. The conversion and the product are all that sine and cosine compute in floats, so the whole numbers'
 -- error is the whole error. Assumes nothing.
 use mathlib.Core.Path.{refl, sym, subst}

@@ -47,7 +47,8 @@ pub fn sine_and_cosine(x: f32) -> Turn
     ensures { λ r. ⌜ (r .sine ≡ sine x) × (r .cosine ≡ cosine x) ⌝ }
 {
     let n = count_of(x);
-    turned(x, n, fixed::both(n))
+    let at = fixed::entry_of(n);
+    turned(x, n, fixed::both_at(n, at.0, at.1))
 }
 
 // The unit that results are counted in, 2^-24.
@@ -74,7 +75,9 @@ pub(crate) fn inside_sine(x: f32) -> f32
     if m < 0x3980_0000 {
         return x;
     }
-    fixed::counted(last_place_of(b), fixed::both(fixed::fixed_of(m)).sine)
+    let n = fixed::fixed_of(m);
+    let at = fixed::entry_of(n);
+    fixed::counted(last_place_of(b), fixed::both_at(n, at.0, at.1).sine)
 }
 
 // Below 2^-12 the cosine is 1, nearer than 2^-25. C is even.
@@ -86,7 +89,9 @@ pub(crate) fn inside_cosine(x: f32) -> f32
     if m < 0x3980_0000 {
         return 1.0;
     }
-    fixed::counted(LAST_PLACE, fixed::both(fixed::fixed_of(m)).cosine)
+    let n = fixed::fixed_of(m);
+    let at = fixed::entry_of(n);
+    fixed::counted(LAST_PLACE, fixed::both_at(n, at.0, at.1).cosine)
 }
 
 // x as a count of 2^-35; below 2^-12 it is 1, which no other number has, and outside the table 0.

@@ -11,22 +11,21 @@ ghost use Rattle.sines.specs.How.{fixedSine, fixedCosine, counted, entry
 const EIGHTH: u64 = 0x1_0000_0000;
 
 // 1, as a count of the table's unit, 2^-30.
-const TABLE_ONE: u64 = 0x4000_0000;
+const TABLE_ONE: i64 = 0x4000_0000;
 
 // 1, as a count of the rest's unit, 2^-32.
 const REST_ONE: u64 = 0x1_0000_0000;
 
 // The result's unit, 2^-24, as a count of the products', 2^-62.
-const RESULT_UNIT: u64 = 0x40_0000_0000;
+const RESULT_UNIT: i64 = 0x40_0000_0000;
 
-// Half of it, so that the division rounds.
-const HALF_RESULT_UNIT: u64 = RESULT_UNIT / 2;
+// Half of it, so that the shift, which rounds down, rounds to the nearest.
+const HALF_RESULT_UNIT: i64 = RESULT_UNIT / 2;
 
-// What is added so that nothing is negative, 5/4, as a count of the result's unit.
-const SURPLUS: i32 = 0x140_0000;
+// What is added so that a result is not negative, 5/4, as a count of its unit; and what is taken off again.
+const SURPLUS: i64 = 0x140_0000;
 
-// The same as a count of the products' unit.
-const SURPLUS_OF_PRODUCTS: u64 = 0x5000_0000_0000_0000;
+const SURPLUS_AGAIN: i32 = 0x140_0000;
 
 // The factors of z's powers in 1 - z^2/128 + z^4/98304 and z/8 - z^3/3072 + z^5/3932160, where z is
 // 8 times the rest. The 20 stand for the terms that are left out.
@@ -78,22 +77,24 @@ fn odd_part(r: u64, q: u64) -> u64
 }
 
 // sin(p + r) = sin p cos r + cos p sin r in units of 2^-24, plus the surplus; the first two in units
-// of 2^-30 and plus 1, the last two in units of 2^-32.
-fn sine_sum(s: u64, c: u64, a: u64, b: u64) -> u64
+// of 2^-30 and plus 1, the last two in units of 2^-32. The shift divides by the result's unit.
+fn sine_sum(s: u32, c: u32, a: u64, b: u64) -> u64
     requires { ⌜ (s ≤ 2 * tableOne) × (c ≤ 2 * tableOne) × (a ≤ restOne) × (b ≤ lineFactor) ⌝ }
     ensures { λ w. ⌜ w ≡ sineSum s c a b ⌝ }
 {
-    let low = SURPLUS_OF_PRODUCTS - TABLE_ONE * (a + b);
-    (low + s * a + c * b + HALF_RESULT_UNIT) / RESULT_UNIT
+    let u = s as i64 - TABLE_ONE;
+    let v = c as i64 - TABLE_ONE;
+    (((u * a as i64 + v * b as i64 + HALF_RESULT_UNIT) >> 38) + SURPLUS) as u64
 }
 
 // cos(p + r) = cos p cos r - sin p sin r, likewise.
-fn cosine_sum(s: u64, c: u64, a: u64, b: u64) -> u64
+fn cosine_sum(s: u32, c: u32, a: u64, b: u64) -> u64
     requires { ⌜ (s ≤ 2 * tableOne) × (c ≤ 2 * tableOne) × (a ≤ restOne) × (b ≤ lineFactor) ⌝ }
     ensures { λ w. ⌜ w ≡ cosineSum s c a b ⌝ }
 {
-    let low = SURPLUS_OF_PRODUCTS - TABLE_ONE * a + TABLE_ONE * b;
-    (low + c * a - s * b + HALF_RESULT_UNIT) / RESULT_UNIT
+    let u = s as i64 - TABLE_ONE;
+    let v = c as i64 - TABLE_ONE;
+    (((v * a as i64 - u * b as i64 + HALF_RESULT_UNIT) >> 38) + SURPLUS) as u64
 }
 
 // A sine and a cosine in units of 2^-24, plus the surplus.
@@ -120,18 +121,9 @@ pub fn both_at(x: u64, s: u32, c: u32) -> Pair
     let a = even_part(q);
     let b = odd_part(r, q);
     Pair {
-        sine: sine_sum(s as u64, c as u64, a, b),
-        cosine: cosine_sum(s as u64, c as u64, a, b),
+        sine: sine_sum(s, c, a, b),
+        cosine: cosine_sum(s, c, a, b),
     }
-}
-
-// The same.
-pub fn both(x: u64) -> Pair
-    requires { ⌜ x ≤ sixteen ⌝ }
-    ensures { λ w. ⌜ (w .sine ≡ fixedSine x) × (w .cosine ≡ fixedCosine x) ⌝ }
-{
-    let at = entry_of(x);
-    both_at(x, at.0, at.1)
 }
 
 // So many of the last place, from a number with the surplus.
@@ -139,6 +131,6 @@ pub fn counted(last_place: f32, w: u64) -> f32
     requires { ⌜ (surplus - resultOne ≤ w) × (w ≤ surplus + resultOne) ⌝ }
     ensures { λ r. ⌜ r ≡ counted «last_place» w ⌝ }
 {
-    let y = w as i32 - SURPLUS;
+    let y = w as i32 - SURPLUS_AGAIN;
     y as f32 * last_place
 }

@@ -4,6 +4,7 @@ use borrow.Author.Needs.{needs}
 use mathlib.Core.Path.{sym, ap, _∙_, subst}
 use lib.Dec.{T}
 use lib.Ieee.{binary32, fits, ofBits}
+use Rattle.sines.specs.declared.table.Eighths.{Eighths}
 use Rattle.sines.specs.How.{fixedCosine, centred}
 use Rattle.sines.proofs.Values.{no-nan, most-bits}
 use Rattle.sines.proofs.Whole.{cosine-fits}
@@ -25,19 +26,28 @@ returns c = cosine-tiny (c .before .args .x) (c .if1 .taken)
 fixed-of-requires : tie.Need-fixed-of-requires
 fixed-of-requires c κs = (c .if1 .left, most-bits (c .before .args .x) (held (c .before)) (c .before .pre))
 
-both-requires : tie.Need-both-requires
-both-requires c κs = search needs
+entry-of-requires : tie.Need-entry-of-requires
+entry-of-requires c κs = search needs
+
+both-at-requires : tie.Need-both-at-requires
+both-at-requires c κs = (
+  c .before .fixed-of .ensures .1,
+  ap (λ (e : Eighths). e .0) (c .entry-of .ensures),
+  ap (λ (e : Eighths). e .1) (c .entry-of .ensures),
+)
 
 counted-requires : tie.Need-counted-requires
 counted-requires c κs =
-    cosine-fits (c .before .fixed-of .result) (c .both .result .cosine) (c .before .fixed-of .ensures .1) (c .both .ensures .1)
+    let f = c .before .before in
+    cosine-fits (f .fixed-of .result) (c .both-at .result .cosine) (f .fixed-of .ensures .1) (c .both-at .ensures .1)
 
 returns-2 : tie.Need-returns-2
 unfolding ofBits
 returns-2 c =
-    let b = c .before .before in
-    c .counted .ensures ∙ ap centred (c .before .both .ensures .1 ∙ ap fixedCosine (b .fixed-of .ensures .0))
+    let b = c .before .before .before in
+    c .counted .ensures ∙ ap centred (c .before .both-at .ensures .1 ∙ ap fixedCosine (b .fixed-of .ensures .0))
     ∙ cosine-else (b .before .before .args .x) (b .before .if1 .left)
 
 pub inside-cosine-spec : {M : Type 1} → statement M
-inside-cosine-spec = tie.close (tie.spec float-to-bits-m returns fixed-of-requires both-requires counted-requires returns-2)
+inside-cosine-spec =
+    tie.close (tie.spec float-to-bits-m returns fixed-of-requires entry-of-requires both-at-requires counted-requires returns-2)
