@@ -53,8 +53,12 @@ loop-again c =
     let l = c .before .before .loop in
     let x = c .before .before .before .args .t1 in
     let h : l .i < length x = search needs in
-    let g : l .i < length (l .o) = omega arith in
-    (search needs, search needs, filled-on count x (l .o) (l .i) _ _ h g (l .inv .2) (c .count-of .ensures .0), each-on (λ n. n ≤ sixteen) (l .o) (l .i) _ g (c .count-of .ensures .1) (l .inv .3))
+    let g : l .i < length (l .o) = omega arith in (
+      search needs,
+      search needs,
+      filled-on count x (l .o) (l .i) _ _ h g (l .inv .2) (c .count-of .ensures .0),
+      each-on (λ n. n ≤ sixteen) (l .o) (l .i) _ g (c .count-of .ensures .1) (l .inv .3),
+    )
 
 returns : tie.Need-returns Inv-loop μ-loop
 returns c =

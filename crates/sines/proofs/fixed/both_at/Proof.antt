@@ -38,9 +38,10 @@ cosine-sum-requires c κs = sine-sum-requires (c .before) tt
 
 returns : tie.Need-returns
 returns c =
-    let at = c .before .before .before .before .before in
+    let first = c .before .before .before .before in
+    let at = first .before in
     let x = at .args .x in
-    let q : c .before .before .before .before .square-of .result ≡ square (rest x) = c .before .before .before .before .square-of .ensures .0 in
+    let q : first .square-of .result ≡ square (rest x) = first .square-of .ensures .0 in
     let a = c .before .before .before .even-part .ensures .0 ∙ ap even q in
     let b = c .before .before .odd-part .ensures .0 ∙ ap (odd (rest x)) q in (
       c .before .sine-sum .ensures ∙ sine-of-parts x _ _ _ _ (at .pre .1) (at .pre .2) a b,

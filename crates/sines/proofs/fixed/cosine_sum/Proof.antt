@@ -31,7 +31,9 @@ cast-result-2 c = search needs
 mul-result-2 : tie.Need-mul-result-2
 mul-result-2 c = product-fits (c .args .s) (c .pre .0) lineFactor (c .args .b) (lit≤ tt) (c .pre .3)
 
-held : (c : tie.Start) → Held (cosineProducts (c .args .s) (c .args .c) (c .args .a) (c .args .b) (c .pre .0) (c .pre .1) (c .pre .2) (c .pre .3))
+held :
+    (c : tie.Start)
+    → Held (cosineProducts (c .args .s) (c .args .c) (c .args .a) (c .args .b) (c .pre .0) (c .pre .1) (c .pre .2) (c .pre .3))
 held c = cosine-held (c .args .s) (c .args .c) (c .args .a) (c .args .b) (c .pre .0) (c .pre .1) (c .pre .2) (c .pre .3)
 
 sub-result : tie.Need-sub-result
