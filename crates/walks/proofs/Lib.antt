@@ -26,4 +26,5 @@ pub mod Swing
 pub mod Unrefused
 pub mod Ends
 pub mod Rounds
+mod Strides
 pub mod Examples

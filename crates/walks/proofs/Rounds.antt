@@ -10,7 +10,7 @@ use lib.Dec.{T, T-not}
 use lib.Ieee.{Float}
 use lib.Ieee.Bits.{is-true}
 use Rattle.units.proofs.Door.{holds}
-use Rattle.legs.specs.Legs.{Leg, leftFront, rightFront, leftMiddle, rightMiddle, leftRear, rightRear, point, every}
+use Rattle.legs.specs.Legs.{Leg, point, every}
 use Rattle.legs.specs.declared.Point.{Point}
 use Rattle.legs.specs.declared.Points.{Points}
 use Rattle.moves.specs.Distance.{same}
@@ -27,7 +27,7 @@ module _ (m : Float) (s t : Points) where
     pub here : (f : Leg) → point l f ≡ point (pointsAfter m s t c) f
     pub within : c ≤ total
 
-  abbrev Arrived : Points → Bool
+  abbrev pub Arrived : Points → Bool
   Arrived l = every (λ f. same (point l f) (point t f))
 
   pub walking-start : (k : ℕ) × WalkFeet m s t k × (k ≤ 147457) → Walking s 0
@@ -51,9 +51,10 @@ module _ (m : Float) (s t : Points) where
     pub walking-few : Arrived l ≡ false → c < 147457
     walking-few e = lt-of-lt-of-le (one-more e) (w .few)
 
-    on : Arrived l ≡ false → (p : Points) → ((f : Leg) → point p f ≡ pointOf (moveTowards (point l f) (point t f) m)) → Walking p (c + 1)
+    -- a round
+    pub walking-on : Arrived l ≡ false → (p : Points) → ((f : Leg) → point p f ≡ pointOf (moveTowards (point l f) (point t f) m)) → Walking p (c + 1)
     unfolding pointsAfter
-    on e p h = record {
+    walking-on e p h = record {
       total = w .total;
       walk = w .walk;
       few = w .few;
@@ -67,30 +68,6 @@ module _ (m : Float) (s t : Points) where
       where
         next : {a b : ℕ} → a < b → a + 1 ≤ b
         next {a} {b} i = omega arith
-
-    -- a round, foot by foot
-    pub walking-on : Arrived l ≡ false → (lf lm lr rf rm rr : Point)
-        → lf ≡ pointOf (moveTowards (point l leftFront) (point t leftFront) m)
-        → lm ≡ pointOf (moveTowards (point l leftMiddle) (point t leftMiddle) m)
-        → lr ≡ pointOf (moveTowards (point l leftRear) (point t leftRear) m)
-        → rf ≡ pointOf (moveTowards (point l rightFront) (point t rightFront) m)
-        → rm ≡ pointOf (moveTowards (point l rightMiddle) (point t rightMiddle) m)
-        → rr ≡ pointOf (moveTowards (point l rightRear) (point t rightRear) m)
-        → Walking
-        (record { «left_front» = lf; «left_middle» = lm; «left_rear» = lr; «right_front» = rf; «right_middle» = rm; «right_rear» = rr })
-        (c + 1)
-    walking-on e lf lm lr rf rm rr elf elm elr erf erm err = on e p steps
-      where
-        p : Points
-        p = record { «left_front» = lf; «left_middle» = lm; «left_rear» = lr; «right_front» = rf; «right_middle» = rm; «right_rear» = rr }
-
-        steps : (f : Leg) → point p f ≡ pointOf (moveTowards (point l f) (point t f) m)
-        steps leftFront = elf
-        steps leftMiddle = elm
-        steps leftRear = elr
-        steps rightFront = erf
-        steps rightMiddle = erm
-        steps rightRear = err
 
     pub walking-ends : Arrived l ≡ true → WalkFeet m s t c
     walking-ends e =

@@ -6,12 +6,13 @@ use Prim.Native.Nat.{ℕ, zero, suc, _+_, _*_, _≤_, _<_, zero-le}
 use native.Mathlib.Nat.{lt-of-lt-of-le}
 use native.Mathlib.Omega.{arith}
 use mathlib.Core.Bool.{Bool, true, false, not, _&&_}
-use lib.Dec.{T, T-not}
+use lib.Dec.{T, T-not, not-T}
 use lib.Pow.{pow-pos}
 use lib.Ieee.{Float, le, eq}
-use lib.Ieee.Fits.{and-i}
+use lib.Ieee.Bits.{is-false}
+use lib.Ieee.Fits.{and-i, and-l, and-r}
 use Rattle.units.specs.Units.{unity, hi, lo, mag, apart, gap}
-use Rattle.units.proofs.Order.{eq-of-apart, apart-comm}
+use Rattle.units.proofs.Order.{eq-of-apart, apart-of-eq, apart-comm}
 use Rattle.units.proofs.Held.{Single}
 use Rattle.legs.specs.declared.Point.{Point}
 use Rattle.moves.specs.Distance.{Each, same, distance}
@@ -31,11 +32,11 @@ apart-self x = none (hi x) (lo x)
     none : (a b : ℕ) → gap (a + b) (b + a) ≡ 0
     none a b = omega arith
 
+three : {a b c : ℕ} → a ≡ 0 → b ≡ 0 → c ≡ 0 → a + b + c ≡ 0
+three {a} {b} {c} x y z = omega arith
+
 pub spread-self : (t : Point) → spread t t ≡ 0
 spread-self t = three (apart-self (t .x)) (apart-self (t .y)) (apart-self (t .z))
-  where
-    three : {a b c : ℕ} → a ≡ 0 → b ≡ 0 → c ≡ 0 → a + b + c ≡ 0
-    three {a} {b} {c} x y z = omega arith
 
 pub same-of-spread : (l t : Point) → Each Single l → Each Single t → spread l t ≡ 0 → T (same l t)
 unfolding same
@@ -49,6 +50,16 @@ same-of-spread l t sl st e =
   where
     parts : (a b c : ℕ) → a + b + c ≡ 0 → (a ≡ 0) × (b ≡ 0) × (c ≡ 0)
     parts a b c e = (omega arith, omega arith, omega arith)
+
+spread-of-same : (l t : Point) → Each Single l → Each Single t → T (same l t) → spread l t ≡ 0
+unfolding same
+spread-of-same l t sl st h =
+    let xy = and-l (eq (l .x) (t .x) && eq (l .y) (t .y)) (eq (l .z) (t .z)) h in
+    let level : (x y : Float) → Single x → Single y → T (eq x y) → apart y x ≡ 0 =
+    λ x y a b e. apart-comm y x ∙ apart-of-eq x y (a .ok) (b .ok) e in
+    three (level (l .x) (t .x) (sl .0) (st .0) (and-l (eq (l .x) (t .x)) (eq (l .y) (t .y)) xy))
+    (level (l .y) (t .y) (sl .1) (st .1) (and-r (eq (l .x) (t .x)) (eq (l .y) (t .y)) xy))
+    (level (l .z) (t .z) (sl .2) (st .2) (and-r (eq (l .x) (t .x) && eq (l .y) (t .y)) (eq (l .z) (t .z)) h))
 
 -- each coordinate is between the start's and the target's, but for 51 * 2 ^ -24
 pub record Between (s t l : Point) : Type 0 where
@@ -139,6 +150,15 @@ module _ (m : Float) (l t : Point) (aim : Aim m t) (way : OnWay l t) where
           let q : nearer (distance l t) l t m ≡ p =
           (let r : Moved (nearer (distance l t) l t m) ≡ Moved p = sym (moves l t m e) ∙ h in cc) in
           subst (Moves m l t) q (by-distance e (le (distance l t) m) refl)
+
+  -- what is farther than the max move is not at its target
+  pub far-is-elsewhere : le (distance l t) m ≡ false → same l t ≡ false
+  far-is-elsewhere e =
+      is-false (same l t)
+      (not-T (same l t) (λ h. none (onward e .less) (spread-of-same l t (way .point) (aim .target) h)))
+    where
+      none : {a b : ℕ} → a < b → b ≡ 0 → ⊥
+      none {a} {b} i z = omega arith
 
   -- whatever a step does: it stays on the way, and between
   pub record Kept : Type 0 where

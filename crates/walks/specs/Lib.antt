@@ -1,4 +1,5 @@
 pub mod Walk
+pub mod How
 pub mod Reach
 pub mod Answers
 pub mod Swing

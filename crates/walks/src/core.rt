@@ -1,10 +1,13 @@
 // The walks behind the door. They ask for numbers within reach, since from others a walk may never end.
+use legs::Feet;
+use legs::Foot;
 use legs::Point;
 use legs::Points;
 ghost use mathlib.Core.Path.{_≡_};
-ghost use Rattle.legs.specs.Legs.{point, every};
+ghost use mathlib.Core.Bool.{true, not};
+ghost use Rattle.legs.specs.Legs.{point, every, lifted, marked};
 ghost use Rattle.moves.specs.Distance.{same};
-ghost use Rattle.moves.specs.Moving.{moveTowards, pointOf};
+ghost use Rattle.walks.specs.How.{stride, strides};
 ghost use Rattle.walks.specs.Walk.{Walk, WalkFeet};
 ghost use Rattle.walks.specs.Reach.{Reach, ReachFeet};
 
@@ -26,15 +29,89 @@ pub fn walk(max_move: f32, start: Point, target: Point) -> u32
     }
 }
 
-// One step of a foot, which stays once it has arrived.
-fn onward(last: Point, target: Point, max_move: f32) -> Point
-    ensures { λ r. ⌜ r ≡ pointOf (moveTowards last target «max_move») ⌝ }
+// Six feet that set out: all are lifted.
+fn setting_out(start: Points) -> Feet
+    ensures { λ r. ⌜ r ≡ marked (λ l. true) start ⌝ }
 {
-    if moves::core::is_same(last, target) {
-        target
-    } else {
-        moves::core::nearer(moves::core::distance(last, target), last, target, max_move)
+    Feet {
+        left_front: legs::core::foot_at(start.left_front, true),
+        left_middle: legs::core::foot_at(start.left_middle, true),
+        left_rear: legs::core::foot_at(start.left_rear, true),
+        right_front: legs::core::foot_at(start.right_front, true),
+        right_middle: legs::core::foot_at(start.right_middle, true),
+        right_rear: legs::core::foot_at(start.right_rear, true),
     }
+}
+
+// One step of a foot. It is put down at its target, where it stays: no coordinate is looked at again.
+fn stride(lifted: bool, last: Point, target: Point, max_move: f32) -> Foot
+    ensures { λ r. ⌜ r ≡ stride lifted last target «max_move» ⌝ }
+{
+    if lifted {
+        let d = moves::core::distance(last, target);
+        if d <= max_move {
+            return legs::core::foot_at(target, false);
+        }
+        return legs::core::foot_at(moves::core::nearer(d, last, target, max_move), true);
+    }
+    legs::core::foot_at(target, false)
+}
+
+// One step of each foot.
+fn strides(last: Feet, target: Points, max_move: f32) -> Feet
+    ensures { λ r. ⌜ r ≡ strides last target «max_move» ⌝ }
+{
+    let points = legs::core::points_of(last);
+    Feet {
+        left_front: stride(
+            last.left_front.lifted,
+            points.left_front,
+            target.left_front,
+            max_move,
+        ),
+        left_middle: stride(
+            last.left_middle.lifted,
+            points.left_middle,
+            target.left_middle,
+            max_move,
+        ),
+        left_rear: stride(
+            last.left_rear.lifted,
+            points.left_rear,
+            target.left_rear,
+            max_move,
+        ),
+        right_front: stride(
+            last.right_front.lifted,
+            points.right_front,
+            target.right_front,
+            max_move,
+        ),
+        right_middle: stride(
+            last.right_middle.lifted,
+            points.right_middle,
+            target.right_middle,
+            max_move,
+        ),
+        right_rear: stride(
+            last.right_rear.lifted,
+            points.right_rear,
+            target.right_rear,
+            max_move,
+        ),
+    }
+}
+
+// Whether every foot is put down.
+fn all_down(feet: Feet) -> bool
+    ensures { λ r. ⌜ r ≡ every (λ l. not (lifted feet l)) ⌝ }
+{
+    !feet.left_front.lifted
+        & !feet.right_front.lifted
+        & !feet.left_middle.lifted
+        & !feet.right_middle.lifted
+        & !feet.left_rear.lifted
+        & !feet.right_rear.lifted
 }
 
 // Whether every foot is at its target.
@@ -49,25 +126,23 @@ fn all_arrived(last: Points, target: Points) -> bool
         & moves::core::is_same(last.right_rear, target.right_rear)
 }
 
-// Six feet walk in rounds of a step each, so that the machine can take their six roots at once.
+// Six feet walk in rounds of a step each, so that the machine can take their six roots at once. The
+// last round counts, unless all had arrived before it.
 pub fn walk_feet(max_move: f32, start: Points, target: Points) -> u32
     requires { ⌜ ReachFeet «max_move» start target ⌝ }
     ensures { λ k. ⌜ WalkFeet «max_move» start target k ⌝ }
 {
-    let mut last = start;
+    let mut last = setting_out(start);
     let mut rounds: u32 = 0;
     loop {
-        if all_arrived(last, target) {
-            return rounds;
+        let next = strides(last, target, max_move);
+        if all_down(next) {
+            if all_arrived(legs::core::points_of(last), target) {
+                return rounds;
+            }
+            return rounds + 1;
         }
-        last = Points {
-            left_front: onward(last.left_front, target.left_front, max_move),
-            left_middle: onward(last.left_middle, target.left_middle, max_move),
-            left_rear: onward(last.left_rear, target.left_rear, max_move),
-            right_front: onward(last.right_front, target.right_front, max_move),
-            right_middle: onward(last.right_middle, target.right_middle, max_move),
-            right_rear: onward(last.right_rear, target.right_rear, max_move),
-        };
+        last = next;
         rounds += 1;
     }
 }

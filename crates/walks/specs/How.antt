@@ -1,0 +1,26 @@
+-- How ours walks six feet; nothing of document 01. A foot is lifted until it is known to be at its target.
+use mathlib.Core.Bool.{Bool, true, false}
+use lib.Ieee.{Float, le}
+use Rattle.numbers.specs.Told.{choose}
+use Rattle.legs.specs.Legs.{point, foot, lifted, feet}
+use Rattle.legs.specs.declared.Point.{Point}
+use Rattle.legs.specs.declared.Points.{Points}
+use Rattle.legs.specs.declared.Foot.{Foot}
+use Rattle.legs.specs.declared.Feet.{Feet}
+use Rattle.moves.specs.Distance.{distance}
+use Rattle.moves.specs.Moving.{nearer}
+
+-- a foot that is put down at t
+abbrev pub putDown : Point → Foot
+putDown t = record { point = t; lifted = false }
+
+-- One step of a foot at p, lifted or not: it is put down at the target where the max move takes it there, and stays down.
+unfoldable pub stride : Bool → Point → Point → Float → Foot
+stride up p t m =
+    choose up
+    (choose (le (distance p t) m) (putDown t) (record { point = nearer (distance p t) p t m; lifted = true }))
+    (putDown t)
+
+-- one step of each foot
+unfoldable pub strides : Feet → Points → Float → Feet
+strides f t m = feet (λ l. stride (lifted f l) (foot f l) (point t l) m)
