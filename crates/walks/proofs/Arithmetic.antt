@@ -8,6 +8,7 @@ use mathlib.Core.Bool.{Bool, true, false, not}
 use lib.Dec.{T, ltb, ltb→lt, nltb→le}
 use Rattle.units.specs.Units.{gap}
 use Rattle.units.proofs.Errors.{Summed, Multiplied, Within}
+use Rattle.units.proofs.Whole.{le-or-lt}
 
 -- ---- (b) the distance Q against the differences X, Y, Z
 pub record Dist (X Y Z qx qy qz s1 s Q u : ℕ) : Type 0 where
@@ -131,9 +132,39 @@ most-up : (pt nt pl nl H A B Np Nn E M Q D δ : ℕ) → E + (nt + pl) ≡ pt + 
     → 16 * gap (pt + Nn) (nt + Np) + 9 * M ≤ 16 * E + 1072 * δ
 most-up pt nt pl nl H A B Np Nn E M Q D δ e a np nn h d mq q m = omega arith
 
+-- (f) the move is M parts in Q of the difference, but for rounding
+move-share : (E D G H M Q u δ : ℕ) → 0 < u → M ≤ Q → M ≤ u → Move E D G H M Q u δ → M * E ≤ Q * H + Q * (19 * δ)
+move-share E D G H M Q u δ UP MQ MU h =
+    let a : D * u * M ≤ (G * Q + Q * δ) * M = mul-le-mul-right M (h .quot .low) in
+    let b : G * M * Q ≤ (H * u + u * (2 * δ)) * Q = mul-le-mul-right Q (h .prod .low) in
+    let c : Q * δ * M ≤ Q * δ * u = mul-le-mul-left (Q * δ) MU in
+    let d : D * M ≤ Q * H + Q * (3 * δ) = le-of-mul-le-mul-right {m = D * M} {n = Q * H + Q * (3 * δ)} {k = u} (omega arith) UP in
+    let e : M * E ≤ M * (D + 16 * δ) = mul-le-mul-left M (h .diff .low) in
+    let f : M * (16 * δ) ≤ Q * (16 * δ) = mul-le-mul-right (16 * δ) MQ in
+    omega arith
+
+share-up : (pt nt pl nl H A B Np Nn E δ : ℕ) → E + (nt + pl) ≡ pt + nl → A + nl ≡ B + (pl + H) → Within Np A (16 * δ)
+    → Within Nn B (16 * δ) → H ≤ E → gap (pt + Nn) (nt + Np) + H ≤ E + 32 * δ
+share-up pt nt pl nl H A B Np Nn E δ e a np nn h = omega arith
+
+past-up : (pt nt pl nl H A B Np Nn E δ : ℕ) → E + (nt + pl) ≡ pt + nl → A + nl ≡ B + (pl + H) → Within Np A (16 * δ)
+    → Within Nn B (16 * δ) → E < H → H ≤ E + 19 * δ → gap (pt + Nn) (nt + Np) ≤ 51 * δ
+past-up pt nt pl nl H A B Np Nn E δ e a np nn l h = omega arith
+
+-- so is what is left of it
+left-short : (g E H M Q δ : ℕ) → g + H ≤ E + 32 * δ → M * E ≤ Q * H + Q * (19 * δ) → Q * g + M * E ≤ Q * E + Q * (51 * δ)
+left-short g E H M Q δ a b = let c : Q * (g + H) ≤ Q * (E + 32 * δ) = mul-le-mul-left Q a in omega arith
+
+left-past : (g E M Q δ : ℕ) → g ≤ 51 * δ → M ≤ Q → Q * g + M * E ≤ Q * E + Q * (51 * δ)
+left-past g E M Q δ a b =
+    let c : Q * g ≤ Q * (51 * δ) = mul-le-mul-left Q a in
+    let d : M * E ≤ Q * E = mul-le-mul-right E b in
+    omega arith
+
 pub record Coord (pt nt pl nl Np Nn M Q D δ : ℕ) : Type 0 where
   pub still : gap (pt + Nn) (nt + Np) ≤ gap (pt + nl) (nt + pl) + 51 * δ
   pub most : 9 * Q ≤ 16 * D → 16 * gap (pt + Nn) (nt + Np) + 9 * M ≤ 16 * gap (pt + nl) (nt + pl) + 1072 * δ
+  pub shrinks : Q * gap (pt + Nn) (nt + Np) + M * gap (pt + nl) (nt + pl) ≤ Q * gap (pt + nl) (nt + pl) + Q * (51 * δ)
 
 trunc : (a b : ℕ) → a - b + b ≡ b - a + a
 trunc a b = omega arith
@@ -172,6 +203,11 @@ coord-up pt nt pl nl Dp Dn Gp Hp Hn Np Nn M Q u δ QP UP MQ MU le d0 h0 mv np nn
           let k' : 9 * Q ≤ 16 * Dp = subst (λ (x : ℕ). 9 * Q ≤ 16 * x) (none-added Dp Dn d0) k in
           subst (λ (x : ℕ). 16 * gap (pt + Nn) (nt + Np) + 9 * M ≤ 16 * x + 1072 * δ) g
           (most-up pt nt pl nl Hp A B Np Nn E M Q Dp δ e a np nn hu (mv .diff .up) MQ k' (move-low E Dp Gp Hp M Q u δ QP UP MU k' mv));
+      shrinks = subst (λ (x : ℕ). Q * gap (pt + Nn) (nt + Np) + M * x ≤ Q * x + Q * (51 * δ)) g (elim (le-or-lt Hp E) [
+        | inl h ↦ left-short (gap (pt + Nn) (nt + Np)) E Hp M Q δ (share-up pt nt pl nl Hp A B Np Nn E δ e a np nn h)
+            (move-share E Dp Gp Hp M Q u δ UP MQ MU mv)
+        | inr h ↦ left-past (gap (pt + Nn) (nt + Np)) E M Q δ (past-up pt nt pl nl Hp A B Np Nn E δ e a np nn h hu) MQ
+      ]);
     }
 
 -- seen from the other side
@@ -186,6 +222,9 @@ coord-flip pt nt pl nl Np Nn M Q Dp Dn δ c =
           subst (λ (x : ℕ). 16 * x + 9 * M ≤ 16 * gap (pt + nl) (nt + pl) + 1072 * δ) g'
           (subst (λ (x : ℕ). 16 * gap (nt + Np) (pt + Nn) + 9 * M ≤ 16 * x + 1072 * δ) g
           (c .most (subst (λ (x : ℕ). 9 * Q ≤ 16 * x) (add-comm Dp Dn) k)));
+      shrinks =
+          subst (λ (x : ℕ). Q * x + M * gap (pt + nl) (nt + pl) ≤ Q * gap (pt + nl) (nt + pl) + Q * (51 * δ)) g'
+          (subst (λ (x : ℕ). Q * gap (nt + Np) (pt + Nn) + M * x ≤ Q * x + Q * (51 * δ)) g (c .shrinks));
     }
 
 -- ---- (e) the three coordinates together; a, b, c are the gaps before and a', b', c' after

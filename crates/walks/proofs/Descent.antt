@@ -18,7 +18,7 @@ use Rattle.legs.specs.declared.Point.{Point}
 use Rattle.moves.specs.Distance.{Each, distance}
 use Rattle.moves.specs.Moving.{component, along}
 use Rattle.walks.specs.Walk.{spread}
-use Rattle.walks.proofs.Arithmetic.{Coord, pick, under, lower}
+use Rattle.walks.proofs.Arithmetic.{Dist, Coord, pick, under, lower}
 use Rattle.moves.proofs.Squares.{Near, diff, size, sq, both, all}
 use Rattle.walks.proofs.Coordinate.{next, coord-fact, coord-part, δ}
 use Rattle.walks.proofs.Far.{distance-rooted, dist-facts}
@@ -35,11 +35,20 @@ parts-lt a b k h = (omega arith, omega arith)
 third : (a b c k : ℕ) → a + b + c ≤ k → (a ≤ k) × (b ≤ k) × (c ≤ k)
 third a b c k h = (omega arith, omega arith, omega arith)
 
+-- the distance Q of three rounded differences
+abbrev pub Facts : ℕ → ℕ → ℕ → ℕ → Type 0
+Facts X Y Z Q = Dist X Y Z (sq X) (sq Y) (sq Z) (both X Y) (all X Y Z) Q unity
+
+-- a difference a falls to b: by M parts in Q of itself, but for rounding
+abbrev pub Shrinks : ℕ → ℕ → ℕ → ℕ → Type 0
+Shrinks Q M a b = Q * b + M * a ≤ Q * a + Q * (51 * δ)
+
 -- one coordinate, at a distance of Q units; D is the size of its rounded difference
 record One (l t dist m : Float) (Q M D : ℕ) : Type 0 where
   units : Units (component dist m l t)
   still : apart t (component dist m l t) ≤ apart t l + 51 * δ
   most : 9 * Q ≤ 16 * D → 16 * apart t (component dist m l t) + 9 * M ≤ 16 * apart t l + 1072 * δ
+  shrinks : Shrinks Q M (apart t l) (apart t (component dist m l t))
 
 one : (l t dist m : Float) (Q M : ℕ) → Units l → Units t → HasValue dist false Q unity → HasValue m false M unity → 0 < Q
     → M ≤ Q → M ≤ unity
@@ -60,6 +69,7 @@ one l t dist m Q M ul ut dv mv QP MQ MU ht nt near k =
       units = units-of (component dist m l t) Np Nn p;
       still = subst (λ (w : ℕ). w ≤ apart t l + 51 * δ) e (c .still);
       most = λ h. subst (λ (w : ℕ). 16 * w + 9 * M ≤ 16 * apart t l + 1072 * δ) e (c .most h);
+      shrinks = subst (Shrinks Q M (apart t l)) e (c .shrinks);
     }
 
 -- ---- a step that goes along: the distance is above the max move
@@ -69,6 +79,7 @@ module _ (m : Float) (l t : Point) (aim : Aim m t) (way : OnWay l t) (far : T (n
     pub Q : ℕ
     pub value : HasValue (distance l t) false Q unity
     pub above : mag m < Q
+    pub facts : Facts (size (t .x) (l .x)) (size (t .y) (l .y)) (size (t .z) (l .z)) Q
     pub kx : size (t .x) (l .x) < 2 * Q
     pub ky : size (t .y) (l .y) < 2 * Q
     pub kz : size (t .z) (l .z) < 2 * Q
@@ -99,6 +110,7 @@ module _ (m : Float) (l t : Point) (aim : Aim m t) (way : OnWay l t) (far : T (n
         Q = w .q;
         value = w .value;
         above = MQ;
+        facts = D;
         kx = k .0;
         ky = k .1;
         kz = k .2;
@@ -109,6 +121,9 @@ module _ (m : Float) (l t : Point) (aim : Aim m t) (way : OnWay l t) (far : T (n
   pub record Lowered : Type 0 where
     pub units : Each Units (along (distance l t) m l t)
     pub lowered : 2 * spread (along (distance l t) m l t) t + mag m ≤ 2 * spread l t
+    pub x : Shrinks (measured .Q) (mag m) (apart (t .x) (l .x)) (apart (t .x) (along (distance l t) m l t .x))
+    pub y : Shrinks (measured .Q) (mag m) (apart (t .y) (l .y)) (apart (t .y) (along (distance l t) m l t .y))
+    pub z : Shrinks (measured .Q) (mag m) (apart (t .z) (l .z)) (apart (t .z) (along (distance l t) m l t .z))
 
   enough : 2704 * δ ≤ mag m
   enough = le-trans (lit≤ tt) (aim .from)
@@ -138,4 +153,7 @@ module _ (m : Float) (l t : Point) (aim : Aim m t) (way : OnWay l t) (far : T (n
             (apart (t .z) (component d m (l .z) (t .z))) M δ
             (9 * Q ≤ 16 * size (t .x) (l .x)) (9 * Q ≤ 16 * size (t .y) (l .y)) (9 * Q ≤ 16 * size (t .z) (l .z)) enough
             (cx .most) (cy .most) (cz .most) (cx .still) (cy .still) (cz .still) (w .largest);
+        x = cx .shrinks;
+        y = cy .shrinks;
+        z = cz .shrinks;
       }

@@ -27,4 +27,6 @@ pub mod Unrefused
 pub mod Ends
 pub mod Rounds
 mod Strides
+mod Spans
+mod Reached
 pub mod Examples

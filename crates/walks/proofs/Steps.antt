@@ -82,7 +82,7 @@ at-target l t = record { x = none (t .x) (l .x); y = none (t .y) (l .y); z = non
     none : (x y : Float) → apart x x ≤ apart x y
     none x y = subst (λ (a : ℕ). a ≤ apart x y) (sym (apart-self x)) zero-le
 
-test-false : {b : Bool} → b ≡ false → T (not b)
+pub test-false : {b : Bool} → b ≡ false → T (not b)
 test-false e = subst (λ (b : Bool). T (not b)) (sym e) tt
 
 module _ (m : Float) (l t : Point) (aim : Aim m t) (way : OnWay l t) where
