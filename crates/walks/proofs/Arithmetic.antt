@@ -143,6 +143,24 @@ move-share E D G H M Q u δ UP MQ MU h =
     let f : M * (16 * δ) ≤ Q * (16 * δ) = mul-le-mul-right (16 * δ) MQ in
     omega arith
 
+-- and no more
+move-no-more : (E D G H M Q u δ : ℕ) → 0 < u → M ≤ Q → M ≤ u → Move E D G H M Q u δ → Q * H ≤ M * E + Q * (19 * δ)
+move-no-more E D G H M Q u δ UP MQ MU h =
+    let a : G * Q * M ≤ (D * u + Q * δ) * M = mul-le-mul-right M (h .quot .up) in
+    let b : H * u * Q ≤ (G * M + u * (2 * δ)) * Q = mul-le-mul-right Q (h .prod .up) in
+    let c : Q * δ * M ≤ Q * δ * u = mul-le-mul-left (Q * δ) MU in
+    let d : Q * H ≤ D * M + Q * (3 * δ) = le-of-mul-le-mul-right {m = Q * H} {n = D * M + Q * (3 * δ)} {k = u} (omega arith) UP in
+    let e : M * D ≤ M * (E + 16 * δ) = mul-le-mul-left M (h .diff .up) in
+    let f : M * (16 * δ) ≤ Q * (16 * δ) = mul-le-mul-right (16 * δ) MQ in
+    omega arith
+
+left-up : (pt nt pl nl H A B Np Nn E δ : ℕ) → E + (nt + pl) ≡ pt + nl → A + nl ≡ B + (pl + H) → Within Np A (16 * δ)
+    → Within Nn B (16 * δ) → E ≤ gap (pt + Nn) (nt + Np) + H + 32 * δ
+left-up pt nt pl nl H A B Np Nn E δ e a np nn = omega arith
+
+left-over : (g E H M Q δ : ℕ) → E ≤ g + H + 32 * δ → Q * H ≤ M * E + Q * (19 * δ) → Q * E ≤ Q * g + M * E + Q * (51 * δ)
+left-over g E H M Q δ a b = let c : Q * E ≤ Q * (g + H + 32 * δ) = mul-le-mul-left Q a in omega arith
+
 share-up : (pt nt pl nl H A B Np Nn E δ : ℕ) → E + (nt + pl) ≡ pt + nl → A + nl ≡ B + (pl + H) → Within Np A (16 * δ)
     → Within Nn B (16 * δ) → H ≤ E → gap (pt + Nn) (nt + Np) + H ≤ E + 32 * δ
 share-up pt nt pl nl H A B Np Nn E δ e a np nn h = omega arith
@@ -165,6 +183,7 @@ pub record Coord (pt nt pl nl Np Nn M Q D δ : ℕ) : Type 0 where
   pub still : gap (pt + Nn) (nt + Np) ≤ gap (pt + nl) (nt + pl) + 51 * δ
   pub most : 9 * Q ≤ 16 * D → 16 * gap (pt + Nn) (nt + Np) + 9 * M ≤ 16 * gap (pt + nl) (nt + pl) + 1072 * δ
   pub shrinks : Q * gap (pt + Nn) (nt + Np) + M * gap (pt + nl) (nt + pl) ≤ Q * gap (pt + nl) (nt + pl) + Q * (51 * δ)
+  pub keeps : Q * gap (pt + nl) (nt + pl) ≤ Q * gap (pt + Nn) (nt + Np) + M * gap (pt + nl) (nt + pl) + Q * (51 * δ)
 
 trunc : (a b : ℕ) → a - b + b ≡ b - a + a
 trunc a b = omega arith
@@ -208,6 +227,9 @@ coord-up pt nt pl nl Dp Dn Gp Hp Hn Np Nn M Q u δ QP UP MQ MU le d0 h0 mv np nn
             (move-share E Dp Gp Hp M Q u δ UP MQ MU mv)
         | inr h ↦ left-past (gap (pt + Nn) (nt + Np)) E M Q δ (past-up pt nt pl nl Hp A B Np Nn E δ e a np nn h hu) MQ
       ]);
+      keeps = subst (λ (x : ℕ). Q * x ≤ Q * gap (pt + Nn) (nt + Np) + M * x + Q * (51 * δ)) g
+          (left-over (gap (pt + Nn) (nt + Np)) E Hp M Q δ (left-up pt nt pl nl Hp A B Np Nn E δ e a np nn)
+          (move-no-more E Dp Gp Hp M Q u δ UP MQ MU mv));
     }
 
 -- seen from the other side
@@ -225,6 +247,9 @@ coord-flip pt nt pl nl Np Nn M Q Dp Dn δ c =
       shrinks =
           subst (λ (x : ℕ). Q * x + M * gap (pt + nl) (nt + pl) ≤ Q * gap (pt + nl) (nt + pl) + Q * (51 * δ)) g'
           (subst (λ (x : ℕ). Q * gap (nt + Np) (pt + Nn) + M * x ≤ Q * x + Q * (51 * δ)) g (c .shrinks));
+      keeps =
+          subst (λ (x : ℕ). Q * gap (pt + nl) (nt + pl) ≤ Q * x + M * gap (pt + nl) (nt + pl) + Q * (51 * δ)) g'
+          (subst (λ (x : ℕ). Q * x ≤ Q * gap (nt + Np) (pt + Nn) + M * x + Q * (51 * δ)) g (c .keeps));
     }
 
 -- ---- (e) the three coordinates together; a, b, c are the gaps before and a', b', c' after

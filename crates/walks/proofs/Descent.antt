@@ -41,7 +41,7 @@ Facts X Y Z Q = Dist X Y Z (sq X) (sq Y) (sq Z) (both X Y) (all X Y Z) Q unity
 
 -- a difference a falls to b: by M parts in Q of itself, but for rounding
 abbrev pub Shrinks : ℕ → ℕ → ℕ → ℕ → Type 0
-Shrinks Q M a b = Q * b + M * a ≤ Q * a + Q * (51 * δ)
+Shrinks Q M a b = (Q * b + M * a ≤ Q * a + Q * (51 * δ)) × (Q * a ≤ Q * b + M * a + Q * (51 * δ))
 
 -- one coordinate, at a distance of Q units; D is the size of its rounded difference
 record One (l t dist m : Float) (Q M D : ℕ) : Type 0 where
@@ -69,7 +69,7 @@ one l t dist m Q M ul ut dv mv QP MQ MU ht nt near k =
       units = units-of (component dist m l t) Np Nn p;
       still = subst (λ (w : ℕ). w ≤ apart t l + 51 * δ) e (c .still);
       most = λ h. subst (λ (w : ℕ). 16 * w + 9 * M ≤ 16 * apart t l + 1072 * δ) e (c .most h);
-      shrinks = subst (Shrinks Q M (apart t l)) e (c .shrinks);
+      shrinks = subst (Shrinks Q M (apart t l)) e (c .shrinks, c .keeps);
     }
 
 -- ---- a step that goes along: the distance is above the max move

@@ -125,7 +125,7 @@ module _ (m : Float) (l t : Point) (aim : Aim m t) (way : OnWay l t) (far : T (n
       let s = lowers m l t aim way far in
       let p = along (distance l t) m l t in
       shrunk (apart (t .x) (l .x)) (apart (t .y) (l .y)) (apart (t .z) (l .z)) (apart (t .x) (p .x)) (apart (t .y) (p .y)) (apart (t .z) (p .z))
-      P (mag m) N (w .Q) (51 * δ) (lt-of-le-of-lt zero-le (w .above)) (le-of-lt (w .above)) less (s .x) (s .y) (s .z)
+      P (mag m) N (w .Q) (51 * δ) (lt-of-le-of-lt zero-le (w .above)) (le-of-lt (w .above)) less (s .x .0) (s .y .0) (s .z .0)
       (room (mag m) N P (w .Q) δ many (w .above) (up-to P h) part) h
 
 -- ---- a walk: where the way spans n times N, it has arrived after n + 1 steps

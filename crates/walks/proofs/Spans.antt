@@ -1,9 +1,9 @@
 -- Straight distances on whole numbers, by their squares: three differences a, b, c span no more than P where the sum of their squares is
 -- at most P's. Nothing here is about floats.
-use mathlib.Core.Path.{_≡_, ap}
+use mathlib.Core.Path.{_≡_, ap, subst}
 use mathlib.Core.Logic.{_⊎_, inl, inr}
 use Prim.Native.Nat.{ℕ, _+_, _-_, _*_, _≤_, _<_}
-use native.Mathlib.Nat.{le-trans, mul-le-mul, mul-le-mul-left, mul-le-mul-right, le-of-mul-le-mul-right, mul-pos}
+use native.Mathlib.Nat.{le-trans, le-of-eq, mul-le-mul, mul-le-mul-left, mul-le-mul-right, le-of-mul-le-mul-right, mul-pos}
 use native.Mathlib.Omega.{arith}
 use Rattle.units.proofs.Whole.{le-or-lt}
 
@@ -99,3 +99,56 @@ shrunk a b c a' b' c' P M N Q e QP MQ NP x y z room s =
         let f : D + N ≡ P = omega arith in
         let g : Q * (D + N) ≡ Q * P = ap (λ (q : ℕ). Q * q) f in
         omega arith
+
+-- r times something, and q times it, together
+added : (r q s A B : ℕ) → r * r * s ≤ A * A → q * q * s ≤ B * B → (r + q) * (r + q) * s ≤ (A + B) * (A + B)
+added r q s A B x y =
+    let z : r * r * s * (q * q * s) ≤ A * A * (B * B) = mul-le-mul x y in
+    let w : r * q * s ≤ A * B = root-le (r * q * s) (A * B) (turned z) in
+    omega arith
+  where
+    turned : r * r * s * (q * q * s) ≤ A * A * (B * B) → r * q * s * (r * q * s) ≤ A * B * (A * B)
+    turned z = omega arith
+
+-- THE OTHER WAY: where each difference falls by no more than M parts in Q of itself, but for e, the span falls by N at most; T is what it
+-- spans at most at first
+pub grown : (a b c a' b' c' P T M N Q e : ℕ) → 0 < Q → M ≤ Q
+    → Q * a ≤ Q * a' + M * a + Q * e → Q * b ≤ Q * b' + M * b + Q * e → Q * c ≤ Q * c' + M * c + Q * e
+    → M * T + Q * (2 * e) ≤ Q * N → Spans a b c T → Spans a' b' c' P → Spans a b c (P + N)
+grown a b c a' b' c' P T M N Q e QP MQ x y z room t s =
+    let R = Q - M in
+    let k : R + M ≡ Q = omega arith in
+    let w : Spans (Q * a' + Q * e) (Q * b' + Q * e) (Q * c' + Q * e) (Q * P + 2 * (Q * e)) =
+    wider (Q * a') (Q * b') (Q * c') (Q * P) (Q * e) (times a' b' c' P Q s) in
+    let v : Spans (R * a) (R * b) (R * c) (Q * P + 2 * (Q * e)) =
+    spans-less (R * a) (R * b) (R * c) (Q * a' + Q * e) (Q * b' + Q * e) (Q * c' + Q * e) (Q * P + 2 * (Q * e))
+    (side a a' R k x) (side b b' R k y) (side c c' R k z) w in
+    let f : (R + M) * (R + M) * (a * a + b * b + c * c) ≤ (Q * P + 2 * (Q * e) + M * T) * (Q * P + 2 * (Q * e) + M * T) =
+    added R M (a * a + b * b + c * c) (Q * P + 2 * (Q * e)) (M * T) (out R v) (squared t) in
+    through a b c (P + N) Q QP (le-trans (in-parts R k f) (mul-le-mul last last))
+  where
+    side : (a a' R : ℕ) → R + M ≡ Q → Q * a ≤ Q * a' + M * a + Q * e → R * a ≤ Q * a' + Q * e
+    side a a' R k h = let l : (R + M) * a ≡ Q * a = ap (λ (q : ℕ). q * a) k in omega arith
+
+    out : (R : ℕ) → Spans (R * a) (R * b) (R * c) (Q * P + 2 * (Q * e))
+        → R * R * (a * a + b * b + c * c) ≤ (Q * P + 2 * (Q * e)) * (Q * P + 2 * (Q * e))
+    out R h = le-trans (le-of-eq (apart-squares R)) h
+      where
+        apart-squares : (R : ℕ) → R * R * (a * a + b * b + c * c) ≡ R * a * (R * a) + R * b * (R * b) + R * c * (R * c)
+        apart-squares R = omega arith
+
+    squared : Spans a b c T → M * M * (a * a + b * b + c * c) ≤ M * T * (M * T)
+    squared h = let g : M * M * (a * a + b * b + c * c) ≤ M * M * (T * T) = mul-le-mul-left (M * M) h in omega arith
+
+    in-parts : (R : ℕ) → R + M ≡ Q
+        → (R + M) * (R + M) * (a * a + b * b + c * c) ≤ (Q * P + 2 * (Q * e) + M * T) * (Q * P + 2 * (Q * e) + M * T)
+        → Q * a * (Q * a) + Q * b * (Q * b) + Q * c * (Q * c) ≤ (Q * P + 2 * (Q * e) + M * T) * (Q * P + 2 * (Q * e) + M * T)
+    in-parts R k h =
+        le-trans (le-of-eq (same-squares Q)) (subst (λ (q : ℕ). q * q * (a * a + b * b + c * c)
+        ≤ (Q * P + 2 * (Q * e) + M * T) * (Q * P + 2 * (Q * e) + M * T)) k h)
+      where
+        same-squares : (q : ℕ) → q * a * (q * a) + q * b * (q * b) + q * c * (q * c) ≡ q * q * (a * a + b * b + c * c)
+        same-squares q = omega arith
+
+    last : Q * P + 2 * (Q * e) + M * T ≤ Q * (P + N)
+    last = omega arith
