@@ -103,7 +103,7 @@ module _ (m : Float) (l t : Point) (aim : Aim m t) (way : OnWay l t) (far : T (n
   pub none-above : NoneAbove (measured m l t aim way far .Q)
   none-above =
       let w = measured m l t aim way far in
-      let n = near-target m l t aim way far in
+      let n = near-target m l t aim way in
       let e = mag-is (distance l t) false (w .Q) (w .value) in
       let many = le-trans (aim .from) (le-of-lt (w .above)) in
       record {

@@ -72,6 +72,20 @@ one l t dist m Q M ul ut dv mv QP MQ MU ht nt near k =
       shrinks = subst (Shrinks Q M (apart t l)) e (c .shrinks, c .keeps);
     }
 
+-- ---- a point on its way
+module _ (m : Float) (l t : Point) (aim : Aim m t) (way : OnWay l t) where
+  pub near : (apart (t .x) (l .x) ≤ 18 * unity) × (apart (t .y) (l .y) ≤ 18 * unity) × (apart (t .z) (l .z) ≤ 18 * unity)
+  near = third (apart (t .x) (l .x)) (apart (t .y) (l .y)) (apart (t .z) (l .z)) (18 * unity) (way .near)
+
+  pub near-target : Near l t
+  near-target = record {
+    from = (way .point .0 .ok, way .point .1 .ok, way .point .2 .ok);
+    to = (aim .target .0 .ok, aim .target .1 .ok, aim .target .2 .ok);
+    x = near .0;
+    y = near .1;
+    z = near .2;
+  }
+
 -- ---- a step that goes along: the distance is above the max move
 module _ (m : Float) (l t : Point) (aim : Aim m t) (way : OnWay l t) (far : T (not (le (distance l t) m))) where
   -- the distance's size Q: no difference is twice as large, and one is more than half of it
@@ -85,24 +99,12 @@ module _ (m : Float) (l t : Point) (aim : Aim m t) (way : OnWay l t) (far : T (n
     pub kz : size (t .z) (l .z) < 2 * Q
     pub largest : (9 * Q ≤ 16 * size (t .x) (l .x)) ⊎ ((9 * Q ≤ 16 * size (t .y) (l .y)) ⊎ (9 * Q ≤ 16 * size (t .z) (l .z)))
 
-  pub near : (apart (t .x) (l .x) ≤ 18 * unity) × (apart (t .y) (l .y) ≤ 18 * unity) × (apart (t .z) (l .z) ≤ 18 * unity)
-  near = third (apart (t .x) (l .x)) (apart (t .y) (l .y)) (apart (t .z) (l .z)) (18 * unity) (way .near)
-
-  pub near-target : Near l t
-  near-target = record {
-    from = (way .point .0 .ok, way .point .1 .ok, way .point .2 .ok);
-    to = (aim .target .0 .ok, aim .target .1 .ok, aim .target .2 .ok);
-    x = near .0;
-    y = near .1;
-    z = near .2;
-  }
-
   pub measured : Measured
   measured =
       let X = size (t .x) (l .x) in
       let Y = size (t .y) (l .y) in
       let Z = size (t .z) (l .z) in
-      let w : Rooted (distance l t) (all X Y Z) = distance-rooted l t near-target in
+      let w : Rooted (distance l t) (all X Y Z) = distance-rooted l t (near-target m l t aim way) in
       let MQ : mag m < w .q = not-le-values binary32 (distance l t) m (w .q) (mag m) (w .value) (aim .move) far in
       let D = dist-facts X Y Z (distance l t) w (le-trans (aim .from) (le-of-lt MQ)) in
       let k = under X Y Z (sq X) (sq Y) (sq Z) (both X Y) (all X Y Z) (w .q) unity unity-pos D in
@@ -136,15 +138,16 @@ module _ (m : Float) (l t : Point) (aim : Aim m t) (way : OnWay l t) (far : T (n
       let Q = w .Q in
       let M = mag m in
       let QP : 0 < Q = lt-of-le-of-lt zero-le (w .above) in
+      let n = near m l t aim way in
       let cx =
       one (l .x) (t .x) d m Q M (way .point .0 .ok) (aim .target .0 .ok) (w .value) (aim .move) QP
-      (le-of-lt (w .above)) (aim .to) (aim .near .0 .0) (aim .near .0 .1) (near .0) (w .kx) in
+      (le-of-lt (w .above)) (aim .to) (aim .near .0 .0) (aim .near .0 .1) (n .0) (w .kx) in
       let cy =
       one (l .y) (t .y) d m Q M (way .point .1 .ok) (aim .target .1 .ok) (w .value) (aim .move) QP
-      (le-of-lt (w .above)) (aim .to) (aim .near .1 .0) (aim .near .1 .1) (near .1) (w .ky) in
+      (le-of-lt (w .above)) (aim .to) (aim .near .1 .0) (aim .near .1 .1) (n .1) (w .ky) in
       let cz =
       one (l .z) (t .z) d m Q M (way .point .2 .ok) (aim .target .2 .ok) (w .value) (aim .move) QP
-      (le-of-lt (w .above)) (aim .to) (aim .near .2 .0) (aim .near .2 .1) (near .2) (w .kz) in
+      (le-of-lt (w .above)) (aim .to) (aim .near .2 .0) (aim .near .2 .1) (n .2) (w .kz) in
       record {
         units = (cx .units, cy .units, cz .units);
         lowered =

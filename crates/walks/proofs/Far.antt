@@ -18,7 +18,7 @@ unfolding distance
 distance-rooted l t n = rooted (squareSum l t) _ (square-sum-rootable l t .held) (square-sum-value l t n)
 
 -- the root's own bounds, made crude
-crude-low : (s q : ℕ) → (2 ^ 22 - 1) * s ≤ 2 ^ 22 * q → 1023 * s ≤ 1024 * q
+pub crude-low : (s q : ℕ) → (2 ^ 22 - 1) * s ≤ 2 ^ 22 * q → 1023 * s ≤ 1024 * q
 crude-low s q h = omega arith
 
 crude-up : (s q : ℕ) → 2 ^ 22 * q ≤ (2 ^ 22 + 1) * s → 1024 * q ≤ 1025 * s

@@ -194,7 +194,7 @@ module _ (m : Float) (l t : Point) (aim : Aim m t) (way : OnWay l t) (far : T (n
   all-kept =
       let d = distance l t in
       let w = measured m l t aim way far in
-      let n = near m l t aim way far in
+      let n = near m l t aim way in
       let QP : 0 < w .Q = lt-of-le-of-lt zero-le (w .above) in
       let MQ = le-of-lt (w .above) in
       record {

@@ -156,7 +156,7 @@ module _ (m : Float) (l t : Point) (aim : Aim m t) (way : OnWay l t) (far : T (n
   along-nears =
       let d = distance l t in
       let w = measured m l t aim way far in
-      let n = near m l t aim way far in
+      let n = near m l t aim way in
       let q = none-above m l t aim way far in
       let dq : Digits (w .Q) = subst Digits (mag-is d false (w .Q) (w .value)) (digits-of d distance-held) in
       let dm : Digits (mag m) = digits-of m (aim .held-move) in

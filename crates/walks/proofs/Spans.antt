@@ -71,7 +71,7 @@ times a b c P r h =
     let k : r * r * (a * a + b * b + c * c) ≤ r * r * (P * P) = mul-le-mul-left (r * r) h in
     omega arith
 
-through : (a b c P r : ℕ) → 0 < r → Spans (r * a) (r * b) (r * c) (r * P) → Spans a b c P
+pub through : (a b c P r : ℕ) → 0 < r → Spans (r * a) (r * b) (r * c) (r * P) → Spans a b c P
 through a b c P r p h =
     le-of-mul-le-mul-right {m = a * a + b * b + c * c} {n = P * P} {k = r * r} (omega arith) (mul-pos p p)
 

@@ -51,7 +51,7 @@ same-of-spread l t sl st e =
     parts : (a b c : ℕ) → a + b + c ≡ 0 → (a ≡ 0) × (b ≡ 0) × (c ≡ 0)
     parts a b c e = (omega arith, omega arith, omega arith)
 
-spread-of-same : (l t : Point) → Each Single l → Each Single t → T (same l t) → spread l t ≡ 0
+pub spread-of-same : (l t : Point) → Each Single l → Each Single t → T (same l t) → spread l t ≡ 0
 unfolding same
 spread-of-same l t sl st h =
     let xy = and-l (eq (l .x) (t .x) && eq (l .y) (t .y)) (eq (l .z) (t .z)) h in
