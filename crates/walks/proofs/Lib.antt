@@ -29,4 +29,5 @@ pub mod Rounds
 mod Strides
 mod Spans
 mod Reached
+mod Outlasted
 pub mod Examples

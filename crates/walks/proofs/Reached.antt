@@ -1,7 +1,7 @@
 -- How many steps take a point to its target, from the straight distance: 15/16 of the max move is made good by every step.
 use mathlib.Core.Path.{_≡_, refl, sym, ap, _∙_, subst}
 use mathlib.Core.Logic.{_⊎_, inl, inr}
-use mathlib.Core.Bool.{Bool, true, false, not}
+use mathlib.Core.Bool.{Bool, true, false, not, true≢false}
 use Prim.Native.Nat.{ℕ, zero, suc, _+_, _-_, _*_, _/_, _^_, _≤_, _<_, zero-le}
 use native.Mathlib.Nat.{le-trans, le-of-lt, le-of-eq, lt-of-le-of-lt, mul-le-mul, mul-le-mul-left, mul-le-mul-right, zero-mul}
 use native.Mathlib.Omega.{arith}
@@ -9,6 +9,7 @@ use lib.Dec.{T, T-not, lit<, lit≤}
 use lib.Pow.{pow-pos}
 use lib.Ieee.{Float, binary32, le}
 use lib.Ieee.Bits.{is-true}
+use lib.Ieee.Exact.{HasValue}
 use Rattle.units.specs.Units.{unity, hi, lo, mag, apart, gap}
 use Rattle.units.proofs.Errors.{Within, sum-abs, unity-pos, summed, multiplied}
 use Rattle.units.proofs.Values.{mag-is}
@@ -25,7 +26,7 @@ use Rattle.walks.proofs.Aim.{Aim, OnWay}
 use Rattle.walks.proofs.Arithmetic.{Dist}
 use Rattle.walks.proofs.Coordinate.{δ}
 use Rattle.walks.proofs.Descent.{near, near-target, measured, lowers}
-use Rattle.walks.proofs.Far.{distance-rooted, crude-low}
+use Rattle.walks.proofs.Far.{distance-rooted, dist-facts, crude-low}
 use Rattle.roots.proofs.Laws.{Rooted}
 use Rattle.walks.proofs.Steps.{kept, test-false, far-is-elsewhere, spread-self, same-of-spread, spread-of-same}
 use Rattle.walks.proofs.Feet.{still-there}
@@ -149,12 +150,9 @@ module _ (m : Float) (l t : Point) (aim : Aim m t) (way : OnWay l t) where
       enough : (w d : ℕ) → 258 * w + 2 * (8192 * d) ≤ 256 * (w + w / 128 + 64 * d + 1)
       enough w d = omega arith
 
--- ---- a step that goes along
-module _ (m : Float) (l t : Point) (aim : Aim m t) (way : OnWay l t) (far : T (not (le (distance l t) m))) where
   -- the distance is not far above what the way spans
-  up-to : (P : ℕ) → InReach l t P → 256 * measured m l t aim way far .Q ≤ 257 * (P + 2 * (32 * δ))
-  up-to P h =
-      let w = measured m l t aim way far in
+  pub distance-within : (P : ℕ) → 2 ^ 137 ≤ mag (distance l t) → InReach l t P → 256 * mag (distance l t) ≤ 257 * (P + 2 * (32 * δ))
+  distance-within P long h =
       let n = near m l t aim way in
       let a = apart (t .x) (l .x) in
       let b = apart (t .y) (l .y) in
@@ -162,9 +160,40 @@ module _ (m : Float) (l t : Point) (aim : Aim m t) (way : OnWay l t) (far : T (n
       let X = size (t .x) (l .x) in
       let Y = size (t .y) (l .y) in
       let Z = size (t .z) (l .z) in
-      distance-above X Y Z (sq X) (sq Y) (sq Z) (both X Y) (all X Y Z) (w .Q) unity (P + 2 * (32 * δ)) (w .facts)
+      let w = distance-rooted l t (near-target m l t aim way) in
+      let e = mag-is (distance l t) false (w .q) (w .value) in
+      let D = dist-facts X Y Z (distance l t) w (le-trans long (le-of-eq e)) in
+      subst (λ (q : ℕ). 256 * q ≤ 257 * (P + 2 * (32 * δ))) (sym e)
+      (distance-above X Y Z (sq X) (sq Y) (sq Z) (both X Y) (all X Y Z) (w .q) unity (P + 2 * (32 * δ)) D
       (spans-less X Y Z (a + 32 * δ) (b + 32 * δ) (c + 32 * δ) (P + 2 * (32 * δ)) (size-near (t .x) (l .x) (n .0) .up)
-      (size-near (t .y) (l .y) (n .1) .up) (size-near (t .z) (l .z) (n .2) .up) (wider a b c P (32 * δ) h))
+      (size-near (t .y) (l .y) (n .1) .up) (size-near (t .z) (l .z) (n .2) .up) (wider a b c P (32 * δ) h)))
+
+  pub distance-value : HasValue (distance l t) false (mag (distance l t)) unity
+  distance-value =
+      let w = distance-rooted l t (near-target m l t aim way) in
+      subst (λ (q : ℕ). HasValue (distance l t) false q unity) (sym (mag-is (distance l t) false (w .q) (w .value))) (w .value)
+
+  pub distance-small : mag (distance l t) ≤ 2 ^ 156
+  distance-small = elim (le-or-lt (2 ^ 137) (mag (distance l t))) [
+    | inl h ↦
+        let n = near m l t aim way in
+        let s = spans-less (apart (t .x) (l .x)) (apart (t .y) (l .y)) (apart (t .z) (l .z)) (18 * unity) (18 * unity) (18 * unity) (36 * unity)
+        (n .0) (n .1) (n .2) (lit≤ tt) in
+        le-trans (few (mag (distance l t)) unity δ (lit≤ tt) (distance-within (36 * unity) h s)) (lit≤ tt)
+    | inr h ↦ le-trans (le-of-lt h) (lit≤ tt)
+  ]
+    where
+      few : (q u d : ℕ) → d ≤ u → 256 * q ≤ 257 * (36 * u + 2 * (32 * d)) → q ≤ 101 * u
+      few q u d h g = omega arith
+
+-- ---- a step that goes along
+module _ (m : Float) (l t : Point) (aim : Aim m t) (way : OnWay l t) (far : T (not (le (distance l t) m))) where
+  up-to : (P : ℕ) → InReach l t P → 256 * measured m l t aim way far .Q ≤ 257 * (P + 2 * (32 * δ))
+  up-to P h =
+      let w = measured m l t aim way far in
+      let e = mag-is (distance l t) false (w .Q) (w .value) in
+      subst (λ (q : ℕ). 256 * q ≤ 257 * (P + 2 * (32 * δ))) e
+      (distance-within m l t aim way P (le-trans (le-trans (aim .from) (le-of-lt (w .above))) (le-of-eq (sym e))) h)
 
   many : 4096 * δ ≤ mag m
   many = le-trans (lit≤ tt) (aim .from)
@@ -229,6 +258,9 @@ module _ (m : Float) (t : Point) (aim : Aim m t) (N : ℕ) (part : 16 * N ≤ 15
       by-place : (b : Bool) → same l t ≡ b → T (same (pointAfter m l t (suc k)) t)
       by-place true e = from-next l t k (ap pointOf (stands l t m e)) (at-target k)
       by-place false e = by-distance e (le (distance l t) m) refl
+
+  pub near-arrives : (l : Point) → le (distance l t) m ≡ true → T (same (pointAfter m l t (suc zero)) t)
+  near-arrives l e = by-tests 0 l (λ f. absurd (true≢false (sym e ∙ f)))
 
   far-goes-along : (l : Point) → OnWay l t → le (distance l t) m ≡ false → pointOf (moveTowards l t m) ≡ along (distance l t) m l t
   unfolding pointOf

@@ -1,13 +1,13 @@
 -- How ours walks six feet; nothing of document 01. A foot is lifted until it is known to be at its target.
 use mathlib.Core.Bool.{Bool, true, false}
-use lib.Ieee.{Float, le}
+use lib.Ieee.{Float, binary32, ofBits, add, mul, le}
 use Rattle.numbers.specs.Told.{choose}
-use Rattle.legs.specs.Legs.{point, foot, lifted, feet}
+use Rattle.legs.specs.Legs.{point, sixPoints, foot, lifted, feet}
 use Rattle.legs.specs.declared.Point.{Point}
 use Rattle.legs.specs.declared.Points.{Points}
 use Rattle.legs.specs.declared.Foot.{Foot}
 use Rattle.legs.specs.declared.Feet.{Feet}
-use Rattle.moves.specs.Distance.{distance}
+use Rattle.moves.specs.Distance.{distance, longestDistance}
 use Rattle.moves.specs.Moving.{nearer}
 
 -- a foot that is put down at t
@@ -24,3 +24,14 @@ stride up p t m =
 -- one step of each foot
 unfoldable pub strides : Feet → Points → Float → Feet
 strides f t m = feet (λ l. stride (lifted f l) (foot f l) (point t l) m)
+
+-- Of six feet only the slow ones are walked. A foot is left out, at its target from the start, where its distance and one max move more come
+-- to at most 27/32 of the longest distance: it has arrived before the slowest has (proofs/Outlasted).
+abbrev pub share : Float
+share = ofBits binary32 1062731776
+
+unfoldable pub setOut : Float → Float → Point → Point → Point
+setOut limit m s t = choose (le (add binary32 (distance s t) m) limit) t s
+
+unfoldable pub slowOnes : Float → Points → Points → Points
+slowOnes m s t = sixPoints (λ l. setOut (mul binary32 (longestDistance s t) share) m (point s l) (point t l))
