@@ -30,4 +30,5 @@ mod Strides
 mod Spans
 mod Reached
 mod Outlasted
+mod SlowOnes
 pub mod Examples

@@ -7,7 +7,7 @@ ghost use mathlib.Core.Path.{_≡_};
 ghost use mathlib.Core.Bool.{true, not};
 ghost use Rattle.legs.specs.Legs.{point, every, lifted, marked};
 ghost use Rattle.moves.specs.Distance.{same};
-ghost use Rattle.walks.specs.How.{stride, strides};
+ghost use Rattle.walks.specs.How.{stride, strides, setOut, slowOnes};
 ghost use Rattle.walks.specs.Walk.{Walk, WalkFeet};
 ghost use Rattle.walks.specs.Reach.{Reach, ReachFeet};
 
@@ -128,7 +128,7 @@ fn all_arrived(last: Points, target: Points) -> bool
 
 // Six feet walk in rounds of a step each, so that the machine can take their six roots at once. The
 // last round counts, unless all had arrived before it.
-pub fn walk_feet(max_move: f32, start: Points, target: Points) -> u32
+fn walk_in_rounds(max_move: f32, start: Points, target: Points) -> u32
     requires { ⌜ ReachFeet «max_move» start target ⌝ }
     ensures { λ k. ⌜ WalkFeet «max_move» start target k ⌝ }
 {
@@ -145,4 +145,39 @@ pub fn walk_feet(max_move: f32, start: Points, target: Points) -> u32
         last = next;
         rounds += 1;
     }
+}
+
+// Where a foot sets out: at its start, or at its target where it is sure to arrive before the
+// slowest, whose distance the limit is a share of.
+fn set_out(limit: f32, max_move: f32, start: Point, target: Point) -> Point
+    ensures { λ r. ⌜ r ≡ setOut limit «max_move» start target ⌝ }
+{
+    if moves::core::distance(start, target) + max_move <= limit {
+        target
+    } else {
+        start
+    }
+}
+
+// Six feet of which only the slow ones are not at their targets.
+fn slow_ones(max_move: f32, start: Points, target: Points) -> Points
+    ensures { λ r. ⌜ r ≡ slowOnes «max_move» start target ⌝ }
+{
+    let limit = moves::core::longest_distance(start, target) * 0.84375;
+    Points {
+        left_front: set_out(limit, max_move, start.left_front, target.left_front),
+        left_middle: set_out(limit, max_move, start.left_middle, target.left_middle),
+        left_rear: set_out(limit, max_move, start.left_rear, target.left_rear),
+        right_front: set_out(limit, max_move, start.right_front, target.right_front),
+        right_middle: set_out(limit, max_move, start.right_middle, target.right_middle),
+        right_rear: set_out(limit, max_move, start.right_rear, target.right_rear),
+    }
+}
+
+// The slowest foot's count is the six feet's, so that only the slow ones are walked.
+pub fn walk_feet(max_move: f32, start: Points, target: Points) -> u32
+    requires { ⌜ ReachFeet «max_move» start target ⌝ }
+    ensures { λ k. ⌜ WalkFeet «max_move» start target k ⌝ }
+{
+    walk_in_rounds(max_move, slow_ones(max_move, start, target), target)
 }
