@@ -7,17 +7,15 @@ use Prim.Native.Nat.{ℕ, _≤_, _<_, zero-le}
 use native.Mathlib.Nat.{le-trans, le-of-eq, le-antisymm, lt-irrefl}
 use lib.Dec.{T}
 use lib.Ieee.{Float, binary32, add, mul, le, lt}
-use Rattle.units.proofs.Door.{holds}
 use Rattle.numbers.specs.Told.{choose}
 use Rattle.numbers.specs.Finite.{greater}
 use Rattle.legs.specs.Legs.{Leg, leftFront, rightFront, leftMiddle, rightMiddle, leftRear, rightRear, row, point}
 use Rattle.legs.specs.declared.Point.{Point}
 use Rattle.legs.specs.declared.Points.{Points}
-use Rattle.legs.proofs.Laws.{point-of-six}
 use Rattle.moves.specs.Distance.{same, distance, longestDistance, largest as largestOf}
 use Rattle.walks.specs.Walk.{pointAfter, Walk, WalkFeet, largest}
 use Rattle.walks.specs.Reach.{Reach, ReachFeet}
-use Rattle.walks.specs.How.{share, setOut, slowOnes}
+use Rattle.walks.specs.How.{share, SlowOnes}
 use Rattle.walks.proofs.Aim.{Aim, OnWay}
 use Rattle.walks.proofs.Steps.{spread-self, same-of-spread}
 use Rattle.walks.proofs.Feet.{none-larger, one-largest}
@@ -49,79 +47,70 @@ module _ (m : Float) (s t : Points) where
   unfolding longestDistance
   lead = one-longest (λ l. distance (point s l) (point t l))
 
-  -- whether a foot is left out
-  out : Leg → Bool
-  out l = le (add binary32 (distance (point s l) (point t l)) m) (mul binary32 (longestDistance s t) share)
+  module _ (p : Points) (slow : SlowOnes m s t p) where
+    abbrev Out : Leg → Type 0
+    Out l = T (le (add binary32 (distance (point s l) (point t l)) m) (mul binary32 (longestDistance s t) share))
 
-  foot-is : (l : Leg) → point (slowOnes m s t) l ≡ choose (out l) (point t l) (point s l)
-  unfolding slowOnes setOut out
-  foot-is l = point-of-six (λ k. setOut (mul binary32 (longestDistance s t) share) m (point s k) (point t k)) l
+    -- what a foot does: as it was, or left out at its target
+    by-place : (P : Leg → Type 0) → ((l : Leg) → Out l → point p l ≡ point t l → P l) → ((l : Leg) → point p l ≡ point s l → P l)
+        → (l : Leg) → P l
+    by-place P f g l = ⊎-elim (g l) (λ o. f l (o .1) (o .0)) (slow l)
 
-  -- what a foot does: at its target, or as before
-  by-place : (P : Leg → Type 0) → ((l : Leg) → out l ≡ true → point (slowOnes m s t) l ≡ point t l → P l)
-      → ((l : Leg) → point (slowOnes m s t) l ≡ point s l → P l) → (l : Leg) → P l
-  by-place P f g l = by-test (out l) refl
-    where
-      by-test : (b : Bool) → out l ≡ b → P l
-      by-test true e = f l e (foot-is l ∙ ap (λ (b : Bool). choose b (point t l) (point s l)) e)
-      by-test false e = g l (foot-is l ∙ ap (λ (b : Bool). choose b (point t l) (point s l)) e)
+    pub slow-reach : ReachFeet m s t → ReachFeet m p t
+    slow-reach r =
+        by-place (λ l. Reach m (point p l) (point t l))
+        (λ l _ e. subst (λ (q : Point). Reach m q (point t l)) (sym e)
+        (record { start = r l .target; target = r l .target; move = r l .move; from = r l .from; to = r l .to }))
+        (λ l e. subst (λ (q : Point). Reach m q (point t l)) (sym e) (r l))
 
-  pub slow-reach : ReachFeet m s t → ReachFeet m (slowOnes m s t) t
-  slow-reach r =
-      by-place (λ l. Reach m (point (slowOnes m s t) l) (point t l))
-      (λ l _ e. subst (λ (p : Point). Reach m p (point t l)) (sym e)
-      (record { start = r l .target; target = r l .target; move = r l .move; from = r l .from; to = r l .to }))
-      (λ l e. subst (λ (p : Point). Reach m p (point t l)) (sym e) (r l))
+    module _ (aim : (l : Leg) → Aim m (point t l)) (way : (l : Leg) → OnWay (point s l) (point t l))
+        (k n : ℕ) (v : WalkFeet m p t k) (w : WalkFeet m s t n) where
+      at-target : (l : Leg) → T (same (pointAfter m (point t l) (point t l) 0) (point t l))
+      unfolding pointAfter
+      at-target l = same-of-spread (point t l) (point t l) (aim l .target) (aim l .target) (spread-self (point t l))
 
-  module _ (aim : (l : Leg) → Aim m (point t l)) (way : (l : Leg) → OnWay (point s l) (point t l))
-      (k n : ℕ) (v : WalkFeet m (slowOnes m s t) t k) (w : WalkFeet m s t n) where
-    at-target : (l : Leg) → T (same (pointAfter m (point t l) (point t l) 0) (point t l))
-    unfolding pointAfter
-    at-target l = same-of-spread (point t l) (point t l) (aim l .target) (aim l .target) (spread-self (point t l))
+      no-more : (l : Leg) → v .counts l ≤ w .counts l
+      no-more =
+          by-place (λ l. v .counts l ≤ w .counts l)
+          (λ l _ e. le-trans
+          (count-within m (point t l) (point t l) 0 (v .counts l) (subst (λ (q : Point). Walk m q (point t l) (v .counts l)) e (v .walks l)) (at-target l))
+          zero-le)
+          (λ l e. count-within m (point s l) (point t l) (w .counts l) (v .counts l)
+          (subst (λ (q : Point). Walk m q (point t l) (v .counts l)) e (v .walks l)) (w .walks l .arrives))
 
-    no-more : (l : Leg) → v .counts l ≤ w .counts l
-    no-more =
-        by-place (λ l. v .counts l ≤ w .counts l)
-        (λ l _ e. le-trans
-        (count-within m (point t l) (point t l) 0 (v .counts l) (subst (λ (p : Point). Walk m p (point t l) (v .counts l)) e (v .walks l)) (at-target l))
-        zero-le)
-        (λ l e. count-within m (point s l) (point t l) (w .counts l) (v .counts l)
-        (subst (λ (p : Point). Walk m p (point t l) (v .counts l)) e (v .walks l)) (w .walks l .arrives))
+      as-before : (l : Leg) → point p l ≡ point s l → w .counts l ≤ v .counts l
+      as-before l e =
+          count-within m (point s l) (point t l) (v .counts l) (w .counts l) (w .walks l)
+          (subst (λ (q : Point). Walk m q (point t l) (v .counts l)) e (v .walks l) .arrives)
 
-    as-before : (l : Leg) → point (slowOnes m s t) l ≡ point s l → w .counts l ≤ v .counts l
-    as-before l e =
-        count-within m (point s l) (point t l) (v .counts l) (w .counts l) (w .walks l)
-        (subst (λ (p : Point). Walk m p (point t l) (v .counts l)) e (v .walks l) .arrives)
+      out-of : (l : Leg) → Out l
+          → T (le (add binary32 (distance (point s l) (point t l)) m) (mul binary32 (distance (point s (lead .0)) (point t (lead .0))) share))
+      out-of l e =
+          subst (λ (d : Float). T (le (add binary32 (distance (point s l) (point t l)) m) (mul binary32 d share))) (lead .1) e
 
-    out-of : (l : Leg) → out l ≡ true
-        → T (le (add binary32 (distance (point s l) (point t l)) m) (mul binary32 (distance (point s (lead .0)) (point t (lead .0))) share))
-    unfolding out
-    out-of l e =
-        subst (λ (d : Float). T (le (add binary32 (distance (point s l) (point t l)) m) (mul binary32 d share))) (lead .1) (holds e)
+      lead-walks : w .counts (lead .0) ≤ v .counts (lead .0)
+      lead-walks =
+          by-place (λ l. l ≡ lead .0 → w .counts l ≤ v .counts l)
+          (λ l o _ e. absurd
+          (lt-irrefl _ (longer m _ _ _ _ (aim (lead .0)) (way (lead .0)) (aim (lead .0)) (way (lead .0))
+          (subst (λ (i : Leg). T (le (add binary32 (distance (point s i) (point t i)) m)
+          (mul binary32 (distance (point s (lead .0)) (point t (lead .0))) share))) e (out-of l o)) .1)))
+          (λ l e _. as-before l e) (lead .0) refl
 
-    lead-walks : w .counts (lead .0) ≤ v .counts (lead .0)
-    lead-walks =
-        by-place (λ l. l ≡ lead .0 → w .counts l ≤ v .counts l)
-        (λ l o _ e. absurd
-        (lt-irrefl _ (longer m _ _ _ _ (aim (lead .0)) (way (lead .0)) (aim (lead .0)) (way (lead .0))
-        (subst (λ (i : Leg). T (le (add binary32 (distance (point s i) (point t i)) m)
-        (mul binary32 (distance (point s (lead .0)) (point t (lead .0))) share))) e (out-of l o)) .1)))
-        (λ l e _. as-before l e) (lead .0) refl
+      no-fewer : (l : Leg) → w .counts l ≤ largest (row (v .counts))
+      no-fewer =
+          by-place (λ l. w .counts l ≤ largest (row (v .counts)))
+          (λ l o _. le-trans
+          (outlasted m _ _ _ _ (aim (lead .0)) (way (lead .0)) (aim l) (way l) (out-of l o) (w .counts (lead .0)) (w .counts l)
+          (w .walks (lead .0)) (w .walks l))
+          (le-trans lead-walks (none-larger (v .counts) (lead .0))))
+          (λ l e. le-trans (as-before l e) (none-larger (v .counts) l))
 
-    no-fewer : (l : Leg) → w .counts l ≤ largest (row (v .counts))
-    no-fewer =
-        by-place (λ l. w .counts l ≤ largest (row (v .counts)))
-        (λ l o _. le-trans
-        (outlasted m _ _ _ _ (aim (lead .0)) (way (lead .0)) (aim l) (way l) (out-of l o) (w .counts (lead .0)) (w .counts l)
-        (w .walks (lead .0)) (w .walks l))
-        (le-trans lead-walks (none-larger (v .counts) (lead .0))))
-        (λ l e. le-trans (as-before l e) (none-larger (v .counts) l))
-
-    pub slow-count : WalkFeet m s t k
-    slow-count =
-        let o = one-largest (w .counts) in
-        let i = one-largest (v .counts) in
-        subst (WalkFeet m s t)
-        (le-antisymm
-        (le-trans (le-of-eq (w .most ∙ o .1)) (le-trans (no-fewer (o .0)) (le-of-eq (sym (v .most)))))
-        (le-trans (le-of-eq (v .most ∙ i .1)) (le-trans (no-more (i .0)) (le-trans (none-larger (w .counts) (i .0)) (le-of-eq (sym (w .most))))))) w
+      pub slow-count : WalkFeet m s t k
+      slow-count =
+          let o = one-largest (w .counts) in
+          let i = one-largest (v .counts) in
+          subst (WalkFeet m s t)
+          (le-antisymm
+          (le-trans (le-of-eq (w .most ∙ o .1)) (le-trans (no-fewer (o .0)) (le-of-eq (sym (v .most)))))
+          (le-trans (le-of-eq (v .most ∙ i .1)) (le-trans (no-more (i .0)) (le-trans (none-larger (w .counts) (i .0)) (le-of-eq (sym (w .most))))))) w

@@ -1,8 +1,11 @@
 -- How ours walks six feet; nothing of document 01. A foot is lifted until it is known to be at its target.
+use mathlib.Core.Path.{_≡_}
+use mathlib.Core.Logic.{_⊎_}
 use mathlib.Core.Bool.{Bool, true, false}
+use lib.Dec.{T}
 use lib.Ieee.{Float, binary32, ofBits, add, mul, le}
 use Rattle.numbers.specs.Told.{choose}
-use Rattle.legs.specs.Legs.{point, sixPoints, foot, lifted, feet}
+use Rattle.legs.specs.Legs.{Leg, point, foot, lifted, feet}
 use Rattle.legs.specs.declared.Point.{Point}
 use Rattle.legs.specs.declared.Points.{Points}
 use Rattle.legs.specs.declared.Foot.{Foot}
@@ -25,13 +28,13 @@ stride up p t m =
 unfoldable pub strides : Feet → Points → Float → Feet
 strides f t m = feet (λ l. stride (lifted f l) (foot f l) (point t l) m)
 
--- Of six feet only the slow ones are walked. A foot is left out, at its target from the start, where its distance and one max move more come
+-- Of six feet only the slow ones are walked. A foot may be left out, at its target from the start, where its distance and one max move more come
 -- to at most 27/32 of the longest distance: it has arrived before the slowest has (proofs/Outlasted).
 abbrev pub share : Float
 share = ofBits binary32 1062731776
 
-unfoldable pub setOut : Float → Float → Point → Point → Point
-setOut limit m s t = choose (le (add binary32 (distance s t) m) limit) t s
+abbrev pub SetOut : Float → Float → Point → Point → Point → Type 0
+SetOut limit m s t p = (p ≡ s) ⊎ ((p ≡ t) × T (le (add binary32 (distance s t) m) limit))
 
-unfoldable pub slowOnes : Float → Points → Points → Points
-slowOnes m s t = sixPoints (λ l. setOut (mul binary32 (longestDistance s t) share) m (point s l) (point t l))
+abbrev pub SlowOnes : Float → Points → Points → Points → Type 0
+SlowOnes m s t p = (l : Leg) → SetOut (mul binary32 (longestDistance s t) share) m (point s l) (point t l) (point p l)

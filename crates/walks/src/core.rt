@@ -7,7 +7,7 @@ ghost use mathlib.Core.Path.{_≡_};
 ghost use mathlib.Core.Bool.{true, not};
 ghost use Rattle.legs.specs.Legs.{point, every, lifted, marked};
 ghost use Rattle.moves.specs.Distance.{same};
-ghost use Rattle.walks.specs.How.{stride, strides, setOut, slowOnes};
+ghost use Rattle.walks.specs.How.{stride, strides, SetOut, SlowOnes};
 ghost use Rattle.walks.specs.Walk.{Walk, WalkFeet};
 ghost use Rattle.walks.specs.Reach.{Reach, ReachFeet};
 
@@ -150,8 +150,11 @@ fn walk_in_rounds(max_move: f32, start: Points, target: Points) -> u32
 // Where a foot sets out: at its start, or at its target where it is sure to arrive before the
 // slowest, whose distance the limit is a share of.
 fn set_out(limit: f32, max_move: f32, start: Point, target: Point) -> Point
-    ensures { λ r. ⌜ r ≡ setOut limit «max_move» start target ⌝ }
+    ensures { λ r. ⌜ SetOut limit «max_move» start target r ⌝ }
 {
+    if limit * limit < moves::core::square_sum(start, target) {
+        return start;
+    }
     if moves::core::distance(start, target) + max_move <= limit {
         target
     } else {
@@ -159,10 +162,14 @@ fn set_out(limit: f32, max_move: f32, start: Point, target: Point) -> Point
     }
 }
 
-// Six feet of which only the slow ones are not at their targets.
+// Six feet of which only the slow ones are not at their targets; where the first foot has a few
+// steps only, all six as they are.
 fn slow_ones(max_move: f32, start: Points, target: Points) -> Points
-    ensures { λ r. ⌜ r ≡ slowOnes «max_move» start target ⌝ }
+    ensures { λ r. ⌜ SlowOnes «max_move» start target r ⌝ }
 {
+    if moves::core::square_sum(start.left_front, target.left_front) < max_move * max_move * 64.0 {
+        return start;
+    }
     let limit = moves::core::longest_distance(start, target) * 0.84375;
     Points {
         left_front: set_out(limit, max_move, start.left_front, target.left_front),

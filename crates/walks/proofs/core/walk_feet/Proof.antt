@@ -1,12 +1,5 @@
 -- `walks::core::walk_feet` meets its contract: the slow feet's count is the six feet's.
-use mathlib.Core.Path.{_≡_, sym, subst}
-use Prim.Native.Nat.{ℕ}
 use borrow.Author.Needs.{needs}
-use lib.Ieee.{Float}
-use Rattle.legs.specs.declared.Points.{Points}
-use Rattle.walks.specs.Walk.{WalkFeet}
-use Rattle.walks.specs.Reach.{ReachFeet}
-use Rattle.walks.specs.How.{slowOnes}
 use Rattle.walks.proofs.Given.{aimed, set-out}
 use Rattle.walks.proofs.Ends.{feet-end}
 use Rattle.walks.proofs.Fits.{points-fit}
@@ -16,9 +9,8 @@ use Rattle.walks.proofs.core.walk_feet.Tie as tie
 
 walk-in-rounds-requires : tie.Need-walk-in-rounds-requires
 walk-in-rounds-requires c κs =
-    let a = c .before .args in
-    subst (λ (p : Points). ReachFeet (a .max-move) p (a .target)) (sym (c .slow-ones .ensures))
-    (slow-reach (a .max-move) (a .start) (a .target) (c .before .pre))
+    slow-reach (c .before .args .max-move) (c .before .args .start) (c .before .args .target) (c .slow-ones .result)
+    (c .slow-ones .ensures) (c .before .pre)
 
 returns : tie.Need-returns
 returns c =
@@ -28,13 +20,10 @@ returns c =
     let fits-start = points-fit (a .start) (owned .0) in
     let fits-target = points-fit (a .target) (owned .1 .0) in
     let e = feet-end (a .max-move) (a .start) (a .target) (search needs) fits-start fits-target (start .pre) in
-    slow-count (a .max-move) (a .start) (a .target)
+    slow-count (a .max-move) (a .start) (a .target) (c .before .slow-ones .result) (c .before .slow-ones .ensures)
     (λ f. aimed _ _ _ (start .pre f) (search needs) (fits-start f) (fits-target f))
     (λ f. set-out _ _ _ (start .pre f) (search needs) (fits-start f) (fits-target f))
-    _ (e .0)
-    (subst (λ (p : Points). WalkFeet (a .max-move) p (a .target) (c .walk-in-rounds .result)) (c .before .slow-ones .ensures)
-    (c .walk-in-rounds .ensures))
-    (e .1)
+    _ (e .0) (c .walk-in-rounds .ensures) (e .1)
 
 pub walk-feet-spec : {M : Type 1} → statement M
 walk-feet-spec = tie.close (tie.spec (λ _ _. tt) walk-in-rounds-requires returns)
