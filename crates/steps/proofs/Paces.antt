@@ -24,7 +24,7 @@ use Rattle.steps.specs.Next.{stepEnded, timedEnded, stepLift, stepAfter,
 use Rattle.steps.specs.Next.{timedAt, evenAt, nextStep, nextTimed, nextEven}
 use Rattle.steps.specs.Answers.{toldNextStep, toldNextTimed, toldNextEven}
 use Rattle.steps.specs.Entries.{nextStepTold, nextTimedTold, nextEvenTold}
-use Rattle.steps.specs.How.{courseOf, finitePaced, permittedPaced, byDistance, sideways, wayOf, reached, onItsWay, stepMade}
+use Rattle.steps.specs.How.{courseOf, finitePaced, permittedPaced, byDistance, sideways, wayOf, reached, onItsWay, stepMade, evenMade}
 use Rattle.steps.specs.How.{stepOf, timedOf, evenOf}
 use Rattle.steps.specs.declared.Lift.{Lift}
 use Rattle.steps.specs.declared.StepIterator.{StepIterator}
@@ -103,9 +103,7 @@ even-made s (Arrived p) = refl
 
 pub made-at-even-pace : (s : EvenStepIterator) (elapsed : Time)
     → toldNextEven
-    (evenOf s
-    (stepMade (courseOf (s .start) (s .last) (s .target)) (s .lift)
-    (Even (evenProgress (capped elapsed) (capped (s .period)))) (timely elapsed (s .period))))
+    (evenOf s (evenMade (courseOf (s .start) (s .last) (s .target)) (s .period) (s .lift) elapsed))
     ≡ nextEvenTold s elapsed
 unfolding stepMade nextEvenTold nextEven evenAt
 made-at-even-pace s elapsed =

@@ -1,6 +1,8 @@
 -- How ours computes a leg's step: the sine is asked for once for all six legs, and only where a height needs it; and how it makes the step
 -- of all three iterators by one function. Nothing of document 01.
 use Rattle.commands.specs.Constants.{nought, one}
+use Rattle.commands.specs.How.{capped}
+use Rattle.commands.specs.declared.Time.{Time}
 use Prim.Native.Nat.{ℕ}
 use mathlib.Core.Bool.{Bool, true, _&&_, _||_}
 use lib.Ieee.{Float, binary32, add, mul, lt, le}
@@ -17,7 +19,8 @@ use Rattle.moves.specs.declared.MoveStep.the-variants.{Moved, Arrived}
 use Rattle.moves.specs.declared.core.PointsStep.{PointsStep}
 use Rattle.moves.specs.declared.core.PointsStep.the-variants.{Moved as PointsMoved, Arrived as PointsArrived}
 use Rattle.steps.specs.Leg.{half, halfTurn, partWay}
-use Rattle.steps.specs.Progress.{stepProgress}
+use Rattle.steps.specs.Progress.{stepProgress, evenProgress}
+use Rattle.steps.specs.Refusals.{timely}
 use Rattle.steps.specs.Shift.{shiftLegs}
 use Rattle.steps.specs.Marks.{stepped}
 use Rattle.steps.specs.Next.{stepEnded, timedEnded, stepLast, timedLast, evenLast}
@@ -126,6 +129,11 @@ stepMade c lift pace timely =
     choose (permittedPaced c lift pace)
     (choose timely (onItsWay c lift (wayOf c pace)) (Refused 3))
     (Refused (choose (finitePaced c lift pace) 2 1))
+
+-- at even pace, by its two times
+abbrev pub evenMade : Course → Time → Lift → Time → Made
+evenMade c period lift elapsed =
+    stepMade c lift (Even (evenProgress (capped elapsed) (capped period))) (timely elapsed period)
 
 -- what follows for a state
 abbrev pub stepOf : StepIterator → Made → NextStep

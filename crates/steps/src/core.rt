@@ -25,7 +25,7 @@ ghost use Rattle.legs.specs.Legs.{leftFront, rightFront};
 ghost use Rattle.steps.specs.Shift.{heightOf, shiftLegs};
 ghost use Rattle.steps.specs.Marks.{markAfter, stepped};
 ghost use Rattle.steps.specs.How.{atOnce, swing, raised, legAt, courseOf, finiteAlong, permittedAlong, paceFinite, pacePermitted};
-ghost use Rattle.steps.specs.How.{byDistance, sideways, wayOf, reached, onItsWay, stepMade, stepOf, timedOf, evenOf};
+ghost use Rattle.steps.specs.How.{byDistance, sideways, wayOf, reached, onItsWay, stepMade, evenMade, stepOf, timedOf, evenOf};
 
 // From where a step goes, where the feet were last, and to where. Start and target are looked at for their points alone.
 pub struct Course {
@@ -370,6 +370,15 @@ pub fn step_made(c: Course, lift: Lift, pace: Pace, timely: bool) -> Made
                 & door::is_finite(lift.grounded_leg_descent),
         ))
     }
+}
+
+// The step of a course at even pace, for one who keeps no state of it.
+pub fn even_made(c: Course, period: Time, lift: Lift, elapsed: Time) -> Made
+    ensures { λ r. ⌜ r ≡ evenMade c period lift elapsed ⌝ }
+{
+    let timely = is_timely(elapsed, period);
+    let pace = Pace::Even(even_progress(elapsed, period));
+    step_made(c, lift, pace, timely)
 }
 
 // The step of a state, and the state that remembers its feet: by distance,

@@ -260,8 +260,6 @@ impl EvenStepIterator {
         let c = core::course_of(self.start, self.last, self.target);
         let lift = self.lift;
         let period = self.period;
-        let timely = core::is_timely(elapsed, period);
-        let pace = core::Pace::Even(core::even_progress(elapsed, period));
-        core::even_after(self, core::step_made(c, lift, pace, timely))
+        core::even_after(self, core::even_made(c, period, lift, elapsed))
     }
 }

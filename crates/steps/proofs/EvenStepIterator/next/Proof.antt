@@ -5,16 +5,10 @@ use Rattle.steps.proofs.EvenStepIterator.next.Tie as tie
 
 returns : tie.Need-returns
 returns c =
-    let read = c .before .before in
-    let a = read .before .before .before .before .before .args in
-    simp (
-      c .even-after .ensures,
-      c .before .step-made .ensures,
-      read .even-progress .ensures,
-      read .before .is-timely .ensures,
-      read .before .before .before .before .course-of .ensures,
-    )
-    (made-at-even-pace (a .self) (a .elapsed))
+    let made = c .before in
+    let course = made .before .before .before in
+    let a = course .before .args in
+    simp (c .even-after .ensures, made .even-made .ensures, course .course-of .ensures) (made-at-even-pace (a .self) (a .elapsed))
 
 pub next-spec : {M : Type 1} → statement M
-next-spec = tie.close (tie.spec (λ _ _. tt) (λ _ _. tt) (λ _ _. tt) (λ _ _. tt) (λ _ _. tt) returns)
+next-spec = tie.close (tie.spec (λ _ _. tt) (λ _ _. tt) (λ _ _. tt) returns)
