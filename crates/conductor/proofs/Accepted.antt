@@ -89,7 +89,7 @@ module _ (s : State) (elapsed : Time) (h : Accepted s elapsed) where
   told-as =
       door .1
       ∙ ap (withKind (o .kind) (o .state .last)) joints-told
-      ∙ with-joints (o .kind) (o .state) (allAngles (o .state .last) (o .state .configuration))
+      ∙ with-joints (o .kind) (o .state .last) (allAngles (o .state .last) (o .state .configuration))
 
   pub after-is : stateAfter s elapsed ≡ o .state
   unfolding stateAfter

@@ -1,5 +1,5 @@
--- What a call tells and the state after it, case by case: refused at the door; a step, none; then joints, feet outside the table, a leg
--- past its limit. Assumes nothing.
+-- What a call tells, case by case: refused at the door; a step, none; then joints, feet outside the table, a leg past its limit. Assumes
+-- nothing.
 use mathlib.Core.Path.{_≡_, refl, sym, ap, ap₂, subst, _∙_}
 use mathlib.Core.Bool.{Bool, true, false, false≢true, true≢false}
 use mathlib.Core.List.{List, [], _∷_, _++_, append-nil}
@@ -14,6 +14,7 @@ use Rattle.numbers.proofs.Flags.{by-test, where-true, where-false}
 use Rattle.legs.specs.Legs.{row, angles, jointsOf, values, finiteFeet, permittedFeet}
 use Rattle.legs.specs.declared.Feet.{Feet}
 use Rattle.legs.specs.declared.Joints.{Joints}
+use Rattle.commands.specs.Command.{shouldMove}
 use Rattle.commands.specs.declared.Time.{Time}
 use Rattle.steps.specs.Next.{evenLast, nextEven}
 use Rattle.steps.specs.Answers.{toldNextEven}
@@ -21,6 +22,11 @@ use Rattle.steps.specs.Entries.{nextEvenTold}
 use Rattle.steps.specs.declared.EvenStepIterator.{EvenStepIterator}
 use Rattle.steps.specs.declared.NextEven.{NextEven}
 use Rattle.steps.specs.declared.NextEven.the-variants.{Step as EvenStep, NoStep, Refused as EvenRefused}
+use Rattle.steps.specs.How.{courseOf}
+use Rattle.steps.specs.How.{evenOf as evenNext}
+use Rattle.steps.specs.declared.core.Made.{Made}
+use Rattle.steps.specs.declared.core.Made.the-variants.{Feet as MadeFeet, NoStep as NothingMade, Refused as MadeRefused}
+use Rattle.steps.proofs.Paces.{made-at-even-pace}
 use Rattle.steps.proofs.Told.{evenRefusal, next-even-is, next-even-step-or-none}
 use Rattle.joints.specs.Configured.{permittedConfiguration}
 use Rattle.joints.specs.Answers.{givenJoints, legRefused, toldLegs}
@@ -33,9 +39,10 @@ use Rattle.joints.specs.declared.core.LegsSolved.{LegsSolved}
 use Rattle.joints.specs.declared.core.LegsSolved.the-variants.{Joints as AllAngles, Refused as OneRefused}
 use Rattle.joints.proofs.Told.{all-angles-told, one-refused-told, ik-let-in, ik-feet-refused, ik-given}
 use Rattle.joints.proofs.OneAnswer.{with-floats}
-use Rattle.conductor.specs.States.{evenOf, withLast, stateRefusal}
+use Rattle.conductor.specs.States.{evenOf, withLast, plannedState, finiteState, stateRefusal}
 use Rattle.conductor.specs.Answers.{kindMarks, kindValues, withKind, givenCall, told}
-use Rattle.conductor.specs.Conduct.{Onward, onward, ended, byEven, moved, handed, conductTold, stateAfter}
+use Rattle.conductor.specs.Conduct.{Onward, onward, ended, byEven, moved, handed, conductTold}
+use Rattle.conductor.specs.How.{madeUnder, endKind}
 use Rattle.conductor.specs.declared.State.{State}
 use Rattle.conductor.specs.declared.Reply.{Reply}
 use Rattle.conductor.specs.declared.Reply.the-variants.{Step as SaysStep, Planned as SaysPlanned, Rests as SaysRests}
@@ -44,7 +51,7 @@ use Rattle.conductor.specs.Answers.{Kind, Step, Planned, Rests}
 use Rattle.conductor.proofs.Door.{othersPermitted, same-refusal, kept-out-by-others}
 
 -- the numbers with which the door turns away
-pub not-none : (b : Bool) → eqb (choose b 2 1) 0 ≡ false
+not-none : (b : Bool) → eqb (choose b 2 1) 0 ≡ false
 not-none true = refl
 not-none false = refl
 
@@ -86,79 +93,45 @@ told-of Step f j = refl
 told-of Planned f j = refl
 told-of Rests f j = refl
 
--- ---- what is handed over: of this kind, with these last feet, by what the solver answers
-module _ (k : Kind) (s : State) where
-  pub with-joints : (j : Joints) → withKind k (s .last) (givenJoints j) ≡ givenCall k (s .last) j
+-- ---- what is handed over: of this kind, with these feet, by what the solver answers
+module _ (k : Kind) (f : Feet) where
+  pub with-joints : (j : Joints) → withKind k f (givenJoints j) ≡ givenCall k f j
   with-joints j =
-      ap (λ (ms : List ℕ). given ms (kindValues k (s .last) ++ values jointsOf (row (angles j)))) (append-nil (kindMarks k (s .last)))
+      ap (λ (ms : List ℕ). given ms (kindValues k f ++ values jointsOf (row (angles j)))) (append-nil (kindMarks k f))
 
-  abbrev after : Told
-  after = handed (onward k s)
-
-  module _ (before : State) (a : Solution) (tells : toldJoints a ≡ ikTold (s .last) (s .configuration)) where
-    -- what is told and the state, where joints are given, and where not
-    abbrev Handed : Told → State → Type 0
-    Handed t left = (t ≡ after) × (left ≡ choose (eqb (after .number) 0) s before)
-
-    held-back : (t : Told) → t .values ≡ [] → t ≡ toldJoints a → Handed t before
-    unfolding handed
+  module _ (c : Configuration) (a : Solution) (tells : toldJoints a ≡ ikTold f c) where
+    held-back : (t : Told) → t .values ≡ [] → t ≡ toldJoints a → t ≡ withKind k f (ikTold f c)
     held-back t none is =
-        let e : t ≡ ikTold (s .last) (s .configuration) = is ∙ tells in
-        let some = refusal-numbered (s .last) (s .configuration) t none e in
-        let whole : t ≡ after =
-        sym (ap (withKind k (s .last)) (sym e) ∙ sym (where-false (eqb (t .number) 0) _ t some)) in
-        (whole, where-false (eqb (after .number) 0) s before (ap (λ (x : Told). eqb (x .number) 0) (sym whole) ∙ some))
+        let e : t ≡ ikTold f c = is ∙ tells in
+        where-false (eqb (t .number) 0) _ t (refusal-numbered f c t none e) ∙ ap (withKind k f) e
 
-    pub joints-handed : (j : Joints) (left : State) → a ≡ Solved j → left ≡ s → Handed (told (reply k (s .last) j)) left
-    unfolding handed
-    joints-handed j left e is =
-        let says = told-of k (s .last) j in
-        let whole : told (reply k (s .last) j) ≡ after =
-        says ∙ sym (ap (withKind k (s .last)) (sym tells ∙ ap toldJoints e) ∙ with-joints j) in (
-          whole,
-          is
-              ∙ where-true (eqb (after .number) 0) s before
-              (ap (λ (x : Told). eqb (x .number) 0) (sym whole ∙ says)),
-        )
+    pub joints-handed : (j : Joints) → a ≡ Solved j → told (reply k f j) ≡ withKind k f (ikTold f c)
+    joints-handed j e = told-of k f j ∙ sym (ap (withKind k f) (sym tells ∙ ap toldJoints e) ∙ with-joints j)
 
-    pub feet-refused : (n : ℕ) → a ≡ SolverRefused n → Handed (told (Refused n)) before
+    pub feet-refused : (n : ℕ) → a ≡ SolverRefused n → told (Refused n) ≡ withKind k f (ikTold f c)
     unfolding told
     feet-refused n e = held-back (refused n) refl (sym (ap toldJoints e))
 
-    pub leg-refused : (n l : ℕ) → a ≡ SolverLegRefused n l → Handed (told (LegRefused n l)) before
+    pub leg-refused : (n l : ℕ) → a ≡ SolverLegRefused n l → told (LegRefused n l) ≡ withKind k f (ikTold f c)
     unfolding told
     leg-refused n l e = held-back (legRefused n l) refl (sym (ap toldJoints e))
 
--- the same of what becomes of a state, however it is come by
-abbrev pub HandedOn : State → Told → State → Onward → Type 0
-HandedOn before t left o = (t ≡ handed o) × (left ≡ choose (eqb (handed o .number) 0) (o .state) before)
-
-pub handed-as : (before : State) (t : Told) (left : State) (o o' : Onward) → o ≡ o' → HandedOn before t left o → HandedOn before t left o'
-handed-as before t left o o' e = subst (HandedOn before t left) e
-
 -- ---- the whole call, from its door's number and what becomes of the state
 module _ (s : State) (elapsed : Time) where
-  pub taken : (o : Onward) (t : Told) (after : State) → eqb (stateRefusal s elapsed) 0 ≡ true → moved s elapsed ≡ o → t ≡ handed o
-      → after ≡ choose (eqb (handed o .number) 0) (o .state) s → (t ≡ conductTold s elapsed) × (after ≡ stateAfter s elapsed)
-  unfolding conductTold stateAfter
-  taken o t after none is tells stays =
-      let call : handed o ≡ answer (stateRefusal s elapsed) (handed (moved s elapsed)) =
-      ap handed (sym is) ∙ where-true (eqb (stateRefusal s elapsed) 0) _ (refused (stateRefusal s elapsed)) none in
-      (tells ∙ call, stays ∙ ap₂ (λ (a : Told) (b : State). choose (eqb (a .number) 0) b s) call (ap state-of (sym is)))
-    where
-      state-of : Onward → State
-      state-of o = o .state
+  taken : (o : Onward) (t : Told) → eqb (stateRefusal s elapsed) 0 ≡ true → moved s elapsed ≡ o → t ≡ handed o → t ≡ conductTold s elapsed
+  unfolding conductTold
+  taken o t none is tells =
+      tells ∙ ap handed (sym is) ∙ where-true (eqb (stateRefusal s elapsed) 0) _ (refused (stateRefusal s elapsed)) none
 
-  pub turned-away : (n : ℕ) → n ≡ stateRefusal s elapsed → eqb n 0 ≡ false
-      → (told (Refused n) ≡ conductTold s elapsed) × (s ≡ stateAfter s elapsed)
-  unfolding conductTold stateAfter told
+  turned-away : (n : ℕ) → n ≡ stateRefusal s elapsed → eqb n 0 ≡ false → told (Refused n) ≡ conductTold s elapsed
+  unfolding conductTold told
   turned-away n is some =
-      let call : refused n ≡ answer (stateRefusal s elapsed) (handed (moved s elapsed)) =
-      where-false (eqb n 0) (handed (moved s elapsed)) (refused n) some ∙ ap (λ (m : ℕ). answer m (handed (moved s elapsed))) is in (
-        call,
-        where-false (eqb n 0) (moved s elapsed .state) s some
-            ∙ ap (λ (a : Told). choose (eqb (a .number) 0) (moved s elapsed .state) s) call,
-      )
+      where-false (eqb n 0) (handed (moved s elapsed)) (refused n) some ∙ ap (λ (m : ℕ). answer m (handed (moved s elapsed))) is
+
+  -- where something that the step does not look at is outside
+  pub outside-says : (n : ℕ) → othersPermitted s ≡ false → n ≡ choose (finiteState s) 2 1 → told (Refused n) ≡ conductTold s elapsed
+  outside-says n h e =
+      turned-away n (e ∙ kept-out-by-others s elapsed h) (ap (λ (m : ℕ). eqb m 0) e ∙ not-none (finiteState s))
 
 -- ---- by what the step at even pace answers, where all that it does not look at is within
 abbrev tag : NextEven → ℕ
@@ -192,7 +165,7 @@ module _ (s : State) (elapsed : Time) (r : NextEven) (h : othersPermitted s ≡ 
       no-refusal : tag r ≡ 2 → ⊥
       no-refusal e = omega (arith, e, small)
 
-  pub stepped : (f : Feet) (s' : EvenStepIterator) → r ≡ EvenStep f s'
+  stepped : (f : Feet) (s' : EvenStepIterator) → r ≡ EvenStep f s'
       → (eqb (stateRefusal s elapsed) 0 ≡ true) × (moved s elapsed ≡ onward Step (withLast s f))
   unfolding moved
   stepped f s' e =
@@ -200,7 +173,7 @@ module _ (s : State) (elapsed : Time) (r : NextEven) (h : othersPermitted s ≡ 
       let known = let-in (omega (arith, zero)) in
       (known .0, ap (byEven s) (known .1 ∙ e))
 
-  pub none-moves : r ≡ NoStep → (eqb (stateRefusal s elapsed) 0 ≡ true) × (moved s elapsed ≡ ended s)
+  none-moves : r ≡ NoStep → (eqb (stateRefusal s elapsed) 0 ≡ true) × (moved s elapsed ≡ ended s)
   unfolding moved
   none-moves e =
       let one : tag r ≡ 1 = ap tag e in
@@ -208,7 +181,7 @@ module _ (s : State) (elapsed : Time) (r : NextEven) (h : othersPermitted s ≡ 
       (known .0, ap (byEven s) (known .1 ∙ e))
 
   -- a refusal
-  pub step-refused : (n : ℕ) → r ≡ EvenRefused n → (n ≡ stateRefusal s elapsed) × (eqb n 0 ≡ false)
+  step-refused : (n : ℕ) → r ≡ EvenRefused n → (n ≡ stateRefusal s elapsed) × (eqb n 0 ≡ false)
   step-refused n e =
       by-test (eqb number 0)
       (λ t. absurd (never (ap tag (sym (sym e ∙ settled ∙ sym (where-true (eqb number 0) _ (EvenRefused number) t))))))
@@ -224,3 +197,33 @@ module _ (s : State) (elapsed : Time) (r : NextEven) (h : othersPermitted s ≡ 
 
       never : tag (nextEven (evenOf s) elapsed) ≡ 2 → ⊥
       never = next-even-step-or-none (evenOf s) elapsed (λ x. tag x ≡ 2 → ⊥) (λ f. zero-not-two) one-not-two
+
+-- ---- what a call says, by what the step makes, where all that it does not look at is within
+module _ (s : State) (elapsed : Time) (h : othersPermitted s ≡ true) (m : Made)
+    (is : m ≡ madeUnder (courseOf (s .start) (s .last) (s .target)) (s .lifted) (s .command) elapsed) where
+  tells : toldNextEven (evenNext (evenOf s) m) ≡ nextEvenTold (evenOf s) elapsed
+  tells = ap (λ (x : Made). toldNextEven (evenNext (evenOf s) x)) is ∙ made-at-even-pace (evenOf s) elapsed
+
+  pub step-says : (f : Feet) (t : Told) → m ≡ MadeFeet f → t ≡ withKind Step f (ikTold f (s .configuration)) → t ≡ conductTold s elapsed
+  unfolding handed
+  step-says f t e told-so =
+      let known = stepped s elapsed (evenNext (evenOf s) m) h tells f (evenLast (evenOf s) f) (ap (evenNext (evenOf s)) e) in
+      taken s elapsed (onward Step (withLast s f)) t (known .0) (known .1) told-so
+
+  of-end : (b : Bool)
+      → withKind (choose b Planned Rests) (s .last) (ikTold (s .last) (s .configuration))
+      ≡ handed (choose b (onward Planned (plannedState s)) (onward Rests s))
+  unfolding handed
+  of-end true = refl
+  of-end false = refl
+
+  pub end-says : (t : Told) → m ≡ NothingMade → t ≡ withKind (endKind (s .command)) (s .last) (ikTold (s .last) (s .configuration))
+      → t ≡ conductTold s elapsed
+  end-says t e told-so =
+      let known = none-moves s elapsed (evenNext (evenOf s) m) h tells (ap (evenNext (evenOf s)) e) in
+      taken s elapsed (ended s) t (known .0) (known .1) (told-so ∙ of-end (shouldMove (s .command)))
+
+  pub refusal-says : (n : ℕ) → m ≡ MadeRefused n → told (Refused n) ≡ conductTold s elapsed
+  refusal-says n e =
+      let known = step-refused s elapsed (evenNext (evenOf s) m) h tells n (ap (evenNext (evenOf s)) e) in
+      turned-away s elapsed n (known .0) (known .1)

@@ -51,6 +51,7 @@ use Rattle.joints.specs.declared.configuration.Configuration.{Configuration}
 use Rattle.conductor.specs.States.{evenOf, withLast, plannedState, stateRefusal, stoodState}
 use Rattle.conductor.specs.Answers.{told, kindMark, kindMarks, kindValues, givenCall}
 use Rattle.conductor.specs.Conduct.{Onward, onward, moved, handed, conductTold, stateAfter}
+use Rattle.conductor.specs.How.{afterReply}
 use Rattle.conductor.specs.declared.State.{State}
 use Rattle.conductor.specs.Answers.{Kind, Step, Planned, Rests}
 use Rattle.conductor.specs.declared.Reply.{Reply}
@@ -345,6 +346,52 @@ module _ (s : State) where
 
   pub last-stays : plannedState s .last ≡ s .last
   last-stays = refl
+
+-- ---- what a call says settles the state that it leaves
+module _ (s : State) (elapsed : Time) where
+  as-tagged : (r : Reply) → Accepted s elapsed → told r ≡ conductTold s elapsed → tag r ≡ kindMark (moved s elapsed .kind)
+  as-tagged r h e = ap tag (reply-is s elapsed h r e) ∙ of-kind (moved s elapsed .kind)
+    where
+      of-kind : (k : Kind) → tag (reply k (stateAfter s elapsed .last) (jointsAfter s elapsed h)) ≡ kindMark k
+      of-kind Step = refl
+      of-kind Planned = refl
+      of-kind Rests = refl
+
+  -- a plan and rest, by the one kind of the three that has their mark
+  left-by : (n : ℕ) (t : State) → Accepted s elapsed → n ≡ kindMark (moved s elapsed .kind) → (0 ≡ n → ⊥)
+      → (1 ≡ n → plannedState s ≡ t) → (2 ≡ n → s ≡ t) → stateAfter s elapsed ≡ t
+  left-by n t h e never planned rests = after-is s elapsed h ∙ go (by-kind s elapsed)
+    where
+      marked : (k : Kind) → moved s elapsed .kind ≡ k → kindMark k ≡ n
+      marked k i = ap kindMark (sym i) ∙ sym e
+
+      go : Stepped s elapsed ⊎ (PlannedNext s elapsed ⊎ Rested s elapsed) → moved s elapsed .state ≡ t
+      go (inl (f, i, m)) = absurd (never (marked Step (ap (λ (x : Onward). x .kind) m)))
+      go (inr (inl (i, b, m))) = ap (λ (x : Onward). x .state) m ∙ planned (marked Planned (ap (λ (x : Onward). x .kind) m))
+      go (inr (inr (i, b, m))) = ap (λ (x : Onward). x .state) m ∙ rests (marked Rests (ap (λ (x : Onward). x .kind) m))
+
+  pub plan-said : (j : Joints) → told (SaysPlanned j) ≡ conductTold s elapsed → stateAfter s elapsed ≡ plannedState s
+  unfolding told
+  plan-said j e =
+      let h : Accepted s elapsed = ap (λ (t : Told). eqb (t .number) 0) (sym e) in
+      left-by 1 (plannedState s) h (as-tagged (SaysPlanned j) h e) (λ i. omega (arith, i)) (λ i. refl) (λ i. absurd (omega (arith, i)))
+
+  pub rest-said : (j : Joints) → told (SaysRests j) ≡ conductTold s elapsed → stateAfter s elapsed ≡ s
+  unfolding told
+  rest-said j e =
+      let h : Accepted s elapsed = ap (λ (t : Told). eqb (t .number) 0) (sym e) in
+      left-by 2 s h (as-tagged (SaysRests j) h e) (λ i. omega (arith, i)) (λ i. absurd (omega (arith, i))) (λ i. refl)
+
+  refused-so : (t : Told) → t ≡ conductTold s elapsed → eqb (t .number) 0 ≡ false → s ≡ stateAfter s elapsed
+  refused-so t e some = sym (refusal-leaves s elapsed (ap (λ (a : Told). eqb (a .number) 0) (sym e) ∙ some))
+
+  pub said-settles : (r : Reply) → told r ≡ conductTold s elapsed → afterReply s r ≡ stateAfter s elapsed
+  unfolding told
+  said-settles (SaysStep f j) e = sym (step-sets-last s elapsed f j e)
+  said-settles (SaysPlanned j) e = sym (plan-said j e)
+  said-settles (SaysRests j) e = sym (rest-said j e)
+  said-settles (Refused n) e = refused-so (refused n) e (refusal-said s elapsed n e)
+  said-settles (LegRefused n k) e = refused-so (legRefused n k) e (leg-said s elapsed n k e .2)
 
 -- a fresh state lifts LRL, stands where it is relaxed, and its command stands still
 module _ (f : Feet) (c : Configuration) where

@@ -1,3 +1,4 @@
 pub mod States
 pub mod Answers
 pub mod Conduct
+pub mod How

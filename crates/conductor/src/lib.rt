@@ -3,29 +3,19 @@
 use commands::MoveCommand;
 use commands::Time;
 use commands::Tripod;
-use joints::Solution;
 use joints::configuration::Configuration;
-use joints::core::LegsSolved;
 use legs::Feet;
 use legs::Joints;
 use numbers::door;
-use steps::EvenStepIterator;
-use steps::Lift;
-use steps::NextEven;
+use steps::core::Made;
 ghost use mathlib.Core.Path.{_≡_};
-ghost use mathlib.Core.Bool.{true, _&&_};
-ghost use lib.Dec.{eqb};
-ghost use Rattle.numbers.specs.Told.{choose};
-ghost use Rattle.numbers.specs.Limits.{footLimit};
-ghost use Rattle.legs.specs.Legs.{permittedFeet};
-ghost use Rattle.commands.specs.Command.{permittedCommand};
-ghost use Rattle.joints.specs.Configured.{permittedConfiguration};
-ghost use Rattle.joints.specs.Answers.{told as toldJoints};
-ghost use Rattle.joints.specs.Inverse.{ikTold};
-ghost use Rattle.conductor.specs.States.{evenOf, withLast, plannedState, finiteState, permittedState};
+ghost use Rattle.conductor.specs.States.{withLast, plannedState, finiteState, permittedState};
 ghost use Rattle.conductor.specs.States.{stoodState, underCommand, newCommandRefusal};
-ghost use Rattle.conductor.specs.Answers.{Step, told};
-ghost use Rattle.conductor.specs.Conduct.{onward, ended, handed, conductTold, stateAfter};
+ghost use Rattle.conductor.specs.Answers.{told};
+ghost use Rattle.conductor.specs.Conduct.{conductTold, stateAfter};
+ghost use Rattle.conductor.specs.How.{afterReply};
+
+pub mod core;
 
 // What is conducted: where the step began, where the feet were last, where they go, and where they stand relaxed; which tripod is lifted;
 // what the driver asks for; how the crawler is built.
@@ -55,30 +45,6 @@ pub struct After {
     pub reply: Reply,
 }
 
-// The state's step, at even pace: in the command's step time, over the command's height, with no descent.
-fn even_of(state: State) -> EvenStepIterator
-    ensures { λ r. ⌜ r ≡ evenOf state ⌝ }
-{
-    let start = state.start;
-    let last = state.last;
-    let target = state.target;
-    let lifted = state.lifted;
-    let command = state.command;
-    let period = command.step_time;
-    EvenStepIterator {
-        start: start,
-        last: last,
-        target: target,
-        period: period,
-        lift: Lift {
-            step_height: command.step_height,
-            grounded_leg_descent: 0.0,
-            tripod: lifted,
-            aggressive_leg_lift: command.aggressive_leg_lift,
-        },
-    }
-}
-
 // The state with these feet as its last.
 fn with_last(state: State, feet: Feet) -> State
     ensures { λ r. ⌜ r ≡ withLast state feet ⌝ }
@@ -98,10 +64,7 @@ fn planned(state: State) -> State
     let configuration = state.configuration;
     let lifted = state.lifted;
     let other = lifted.invert();
-    let from = legs::core::points_of(last);
-    let rest = legs::core::points_of(relaxed);
-    let to = planner::core::step_with_relaxed_transformation(from, rest, other, command);
-    let target = legs::core::marked_as(last, to);
+    let target = core::next_target(last, relaxed, other, command);
     State {
         start: last,
         last: last,
@@ -111,16 +74,6 @@ fn planned(state: State) -> State
         command: command,
         configuration: configuration,
     }
-}
-
-// Whether what the step does not look at itself is in the table: the relaxed feet, the command's floats, the configuration.
-fn others_permitted(state: State) -> bool
-    ensures { λ r. ⌜ r ≡ (permittedFeet footLimit (state .relaxed) && permittedCommand (state .command)
-        && permittedConfiguration (state .configuration)) ⌝ }
-{
-    legs::core::feet_permitted(numbers::limits::foot_limit(), state.relaxed)
-        & commands::core::command_permitted(state.command)
-        & joints::configuration::permitted(state.configuration)
 }
 
 // Whether every float of the state is in the table, and whether it is finite.
@@ -185,78 +138,33 @@ pub fn command_refused(state: State, command: MoveCommand) -> u32
     }
 }
 
-// A state that stays, and why.
-fn refused(state: State, number: u32) -> After
-    ensures { λ r. ⌜ r ≡ record { state = state; reply = Reply.Refused number } ⌝ }
+// What a call says.
+fn replied(state: State, elapsed: Time) -> Reply
+    ensures { λ r. ⌜ told r ≡ conductTold state elapsed ⌝ }
 {
-    After {
-        state: state,
-        reply: Reply::Refused(number),
-    }
-}
-
-fn leg_refused(state: State, number: u32, leg: u32) -> After
-    ensures { λ r. ⌜ r ≡ record { state = state; reply = Reply.LegRefused number leg } ⌝ }
-{
-    After {
-        state: state,
-        reply: Reply::LegRefused(number, leg),
-    }
-}
-
-// The joints of these feet, where they are in the table; the configuration is.
-fn solved(feet: Feet, configuration: Configuration) -> Solution
-    requires { ⌜ permittedConfiguration configuration ≡ true ⌝ }
-    ensures { λ r. ⌜ toldJoints r ≡ ikTold feet configuration ⌝ }
-{
-    if legs::core::feet_permitted(numbers::limits::foot_limit(), feet) {
-        match joints::core::calculate_ik(feet, configuration) {
-            LegsSolved::Joints(joints) => Solution::Solved(joints),
-            LegsSolved::Refused(number, leg) => Solution::LegRefused(number, leg),
+    let lifted = state.lifted;
+    if core::others_permitted(state.relaxed, state.command, state.configuration) {
+        let course = steps::core::course_of(state.start, state.last, state.target);
+        match core::made(course, lifted, state.command, elapsed) {
+            Made::Feet(feet) => core::stepped(feet, state.configuration),
+            Made::NoStep => core::ended(state.last, state.command, state.configuration),
+            Made::Refused(number) => Reply::Refused(number),
         }
     } else {
-        Solution::Refused(door::outside(legs::core::feet_finite(feet)))
+        Reply::Refused(door::outside(all_finite(state)))
     }
 }
 
-// A step goes on to these feet, unless they are refused.
-fn stepped(state: State, feet: Feet) -> After
-    requires { ⌜ permittedConfiguration (state .configuration) ≡ true ⌝ }
-    ensures { λ r. ⌜ (told (r .reply) ≡ handed (onward Step (withLast state feet)))
-        × (r .state ≡ choose (eqb (handed (onward Step (withLast state feet)) .number) 0) (withLast state feet) state) ⌝ }
+// The state that follows a call which said this.
+fn following(state: State, reply: Reply) -> State
+    ensures { λ r. ⌜ r ≡ afterReply state reply ⌝ }
 {
-    match solved(feet, state.configuration) {
-        Solution::Solved(joints) => After {
-            state: with_last(state, feet),
-            reply: Reply::Step(feet, joints),
-        },
-        Solution::Refused(number) => refused(state, number),
-        Solution::LegRefused(number, leg) => leg_refused(state, number, leg),
-    }
-}
-
-// Where no leg moves any more: the next step is planned if the command should move, else all rests; unless the last feet are refused.
-fn ended(state: State) -> After
-    requires { ⌜ permittedConfiguration (state .configuration) ≡ true ⌝ }
-    ensures { λ r. ⌜ (told (r .reply) ≡ handed (ended state))
-        × (r .state ≡ choose (eqb (handed (ended state) .number) 0) (ended state .state) state) ⌝ }
-{
-    match solved(state.last, state.configuration) {
-        Solution::Solved(joints) => {
-            if commands::core::should_move(state.command) {
-                After {
-                    state: planned(state),
-                    reply: Reply::Planned(joints),
-                }
-            } else {
-                After {
-                    state: state,
-                    reply: Reply::Rests(joints),
-                }
-            }
-        }
-        Solution::Refused(number) => refused(state, number),
-        Solution::LegRefused(number, leg) => leg_refused(state, number, leg),
+    match reply {
+        Reply::Step(feet, _) => with_last(state, feet),
+        Reply::Planned(_) => planned(state),
+        Reply::Rests(_) => state,
+        Reply::Refused(_) => state,
+        Reply::LegRefused(_, _) => state,
     }
 }
 
@@ -264,13 +172,9 @@ fn ended(state: State) -> After
 pub fn conducted(state: State, elapsed: Time) -> After
     ensures { λ r. ⌜ (told (r .reply) ≡ conductTold state elapsed) × (r .state ≡ stateAfter state elapsed) ⌝ }
 {
-    if others_permitted(state) {
-        match even_of(state).next(elapsed) {
-            NextEven::Step(feet, _) => stepped(state, feet),
-            NextEven::NoStep => ended(state),
-            NextEven::Refused(number) => refused(state, number),
-        }
-    } else {
-        refused(state, door::outside(all_finite(state)))
+    let reply = replied(state, elapsed);
+    After {
+        state: following(state, reply),
+        reply: reply,
     }
 }

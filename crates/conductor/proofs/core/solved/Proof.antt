@@ -1,11 +1,11 @@
--- `conductor::solved` meets its contract: joints, a leg that is refused, feet that are.
+-- `conductor::core::solved` meets its contract: joints, a leg that is refused, feet that are.
 use mathlib.Core.Path.{ap, _∙_}
 use mathlib.Core.Bool.{Bool}
 use Rattle.numbers.specs.Told.{choose}
 use Rattle.conductor.proofs.Calls.{joints-solved, leg-named, feet-outside, looked-at}
 use borrow.Author.Needs.{needs}
-use Rattle.conductor.proofs.solved.Statement.{statement}
-use Rattle.conductor.proofs.solved.Tie as tie
+use Rattle.conductor.proofs.core.solved.Statement.{statement}
+use Rattle.conductor.proofs.core.solved.Tie as tie
 
 returns : tie.Need-returns
 returns c =

@@ -1,6 +1,6 @@
--- `conductor::others_permitted` meets its contract.
-use Rattle.conductor.proofs.others_permitted.Statement.{statement}
-use Rattle.conductor.proofs.others_permitted.Tie as tie
+-- `conductor::core::others_permitted` meets its contract.
+use Rattle.conductor.proofs.core.others_permitted.Statement.{statement}
+use Rattle.conductor.proofs.core.others_permitted.Tie as tie
 
 returns : tie.Need-returns
 returns c = simp (
