@@ -1,3 +1,4 @@
 pub mod Finite
 pub mod Storing
 pub mod Back
+pub mod Parts

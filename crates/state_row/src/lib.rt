@@ -28,6 +28,7 @@ ghost use Rattle.conductor.specs.States.{finiteState};
 ghost use Rattle.state_row.specs.Layout.{bodyValues, legValues, configurationValues, pointValues, floatsBytes, timeBytes};
 ghost use Rattle.state_row.specs.Layout.{stateBytes, jointBytes, legOf, bodyOf, configurationOf, flag, tripodOf, commandOf, stateOf};
 ghost use Rattle.state_row.specs.Layout.{flags, isState, standingOf};
+ghost use Rattle.state_row.specs.How.{pointsIn, lastPut, planPut};
 
 // Whether a byte is a flag.
 fn is_flag(b: u8) -> bool
@@ -65,7 +66,7 @@ fn stands(b: u8) -> bool
 }
 
 // The tripod of a byte.
-fn tripod_of(b: u8) -> Tripod
+pub fn tripod_of(b: u8) -> Tripod
     ensures { λ r. ⌜ r ≡ tripodOf b ⌝ }
 {
     if b == 1 { Tripod::RLR } else { Tripod::LRL }
@@ -114,23 +115,31 @@ pub fn configuration_at(s: &[u8], at: usize) -> Configuration
     }
 }
 
+// The six points of 72 bytes.
+pub fn points_in(s: &[u8], at: usize) -> Points
+    requires { ⌜ at + 72 ≤ length (now s) ⌝ }
+    ensures { λ r. ⌜ r ≡ pointsIn (now (s .entry)) at ⌝ }
+{
+    Points {
+        left_front: packed::point_at(s, at),
+        left_middle: packed::point_at(s, at + 24),
+        left_rear: packed::point_at(s, at + 48),
+        right_front: packed::point_at(s, at + 12),
+        right_middle: packed::point_at(s, at + 36),
+        right_rear: packed::point_at(s, at + 60),
+    }
+}
+
 // The feet of 72 bytes of points, all standing.
 pub fn standing_at(s: &[u8]) -> Feet
     requires { ⌜ length (now s) ≡ 72 ⌝ }
     ensures { λ r. ⌜ r ≡ standingOf (now (s .entry)) ⌝ }
 {
-    legs::core::standing(Points {
-        left_front: packed::point_at(s, 0),
-        left_middle: packed::point_at(s, 24),
-        left_rear: packed::point_at(s, 48),
-        right_front: packed::point_at(s, 12),
-        right_middle: packed::point_at(s, 36),
-        right_rear: packed::point_at(s, 60),
-    })
+    legs::core::standing(points_in(s, 0))
 }
 
 // The command of a state's row.
-fn command_at(s: &[u8]) -> MoveCommand
+pub fn command_at(s: &[u8]) -> MoveCommand
     requires { ⌜ length (now s) ≡ 506 ⌝ }
     ensures { λ r. ⌜ r ≡ commandOf (now (s .entry)) ⌝ }
 {
@@ -273,6 +282,27 @@ pub fn put_state(s: &mut [u8], state: State)
     put_all_marks(s, state.start, state.last, state.target, state.relaxed);
     put_flag(s, 504, is_rlr(lifted));
     put_flag(s, 505, command.aggressive_leg_lift);
+}
+
+// The last feet of a row become these, and all else stays.
+pub fn put_last(s: &mut [u8], feet: Feet)
+    requires { ⌜ (length (now s) ≡ 506) × (finiteFeet feet ≡ true) ⌝ }
+    ensures { λ _. ⌜ now (s .exit) ≡ lastPut (now (s .entry)) feet ⌝ }
+{
+    packed::put_points(s, 72, feet);
+    packed::put_marks(s, 486, feet);
+}
+
+// Start and target of a row become these, and so does the lifted tripod.
+pub fn put_plan(s: &mut [u8], start: Feet, target: Feet, lifted: Tripod)
+    requires { ⌜ (length (now s) ≡ 506) × (finiteFeet start ≡ true) × (finiteFeet target ≡ true) ⌝ }
+    ensures { λ _. ⌜ now (s .exit) ≡ planPut (now (s .entry)) start target lifted ⌝ }
+{
+    packed::put_points(s, 0, start);
+    packed::put_points(s, 144, target);
+    packed::put_marks(s, 480, start);
+    packed::put_marks(s, 492, target);
+    put_flag(s, 504, is_rlr(lifted));
 }
 
 // Whether the second tripod is lifted.

@@ -1,0 +1,31 @@
+-- How ours reads and stores a part of a state's row, each at its own place (Layout). Nothing of the request.
+use Prim.Native.Nat.{ℕ, _+_}
+use mathlib.Core.List.{List, [], _∷_}
+use lib.Seq.{sets}
+use Rattle.legs.specs.Answers.{lifts}
+use Rattle.legs.specs.declared.Points.{Points}
+use Rattle.legs.specs.declared.Feet.{Feet}
+use Rattle.commands.specs.Answers.{tripodMark}
+use Rattle.commands.specs.declared.Tripod.{Tripod}
+use Rattle.packed.specs.Packed.{pointAt, pointsBytes}
+
+-- six points of 72 bytes, in row order
+unfoldable pub pointsIn : List ℕ → ℕ → Points
+pointsIn l at =
+    record {
+      «left_front» = pointAt l at;
+      «right_front» = pointAt l (at + 12);
+      «left_middle» = pointAt l (at + 24);
+      «right_middle» = pointAt l (at + 36);
+      «left_rear» = pointAt l (at + 48);
+      «right_rear» = pointAt l (at + 60);
+    }
+
+-- the last feet; a start, a target and the lifted tripod
+abbrev pub lastPut : List ℕ → Feet → List ℕ
+lastPut l f = sets (sets l 72 (pointsBytes f)) 486 (lifts f)
+
+abbrev pub planPut : List ℕ → Feet → Feet → Tripod → List ℕ
+planPut l start target lifted =
+    sets (sets (sets (sets (sets l 0 (pointsBytes start)) 144 (pointsBytes target)) 480 (lifts start)) 492 (lifts target)) 504
+    (tripodMark lifted ∷ [])
