@@ -22,7 +22,6 @@ use Rattle.steps.specs.Entries.{nextEvenTold}
 use Rattle.steps.specs.declared.EvenStepIterator.{EvenStepIterator}
 use Rattle.steps.specs.declared.NextEven.{NextEven}
 use Rattle.steps.specs.declared.NextEven.the-variants.{Step as EvenStep, NoStep, Refused as EvenRefused}
-use Rattle.steps.specs.How.{courseOf}
 use Rattle.steps.specs.How.{evenOf as evenNext}
 use Rattle.steps.specs.declared.core.Made.{Made}
 use Rattle.steps.specs.declared.core.Made.the-variants.{Feet as MadeFeet, NoStep as NothingMade, Refused as MadeRefused}
@@ -42,13 +41,13 @@ use Rattle.joints.proofs.OneAnswer.{with-floats}
 use Rattle.conductor.specs.States.{evenOf, withLast, plannedState, finiteState, stateRefusal}
 use Rattle.conductor.specs.Answers.{kindMarks, kindValues, withKind, givenCall, told}
 use Rattle.conductor.specs.Conduct.{Onward, onward, ended, byEven, moved, handed, conductTold}
-use Rattle.conductor.specs.How.{madeUnder, endKind}
+use Rattle.conductor.specs.How.{madeOf, othersPermitted, endKind}
 use Rattle.conductor.specs.declared.State.{State}
 use Rattle.conductor.specs.declared.Reply.{Reply}
 use Rattle.conductor.specs.declared.Reply.the-variants.{Step as SaysStep, Planned as SaysPlanned, Rests as SaysRests}
 use Rattle.conductor.specs.declared.Reply.the-variants.{Refused, LegRefused}
 use Rattle.conductor.specs.Answers.{Kind, Step, Planned, Rests}
-use Rattle.conductor.proofs.Door.{othersPermitted, same-refusal, kept-out-by-others}
+use Rattle.conductor.proofs.Door.{same-refusal, kept-out-by-others}
 
 -- the numbers with which the door turns away
 not-none : (b : Bool) → eqb (choose b 2 1) 0 ≡ false
@@ -199,31 +198,31 @@ module _ (s : State) (elapsed : Time) (r : NextEven) (h : othersPermitted s ≡ 
       never = next-even-step-or-none (evenOf s) elapsed (λ x. tag x ≡ 2 → ⊥) (λ f. zero-not-two) one-not-two
 
 -- ---- what a call says, by what the step makes, where all that it does not look at is within
-module _ (s : State) (elapsed : Time) (h : othersPermitted s ≡ true) (m : Made)
-    (is : m ≡ madeUnder (courseOf (s .start) (s .last) (s .target)) (s .lifted) (s .command) elapsed) where
-  tells : toldNextEven (evenNext (evenOf s) m) ≡ nextEvenTold (evenOf s) elapsed
-  tells = ap (λ (x : Made). toldNextEven (evenNext (evenOf s) x)) is ∙ made-at-even-pace (evenOf s) elapsed
+module _ (s : State) (elapsed : Time) (h : othersPermitted s ≡ true) (m : Made) (is : m ≡ madeOf s elapsed)
+  where
+    tells : toldNextEven (evenNext (evenOf s) m) ≡ nextEvenTold (evenOf s) elapsed
+    tells = ap (λ (x : Made). toldNextEven (evenNext (evenOf s) x)) is ∙ made-at-even-pace (evenOf s) elapsed
 
-  pub step-says : (f : Feet) (t : Told) → m ≡ MadeFeet f → t ≡ withKind Step f (ikTold f (s .configuration)) → t ≡ conductTold s elapsed
-  unfolding handed
-  step-says f t e told-so =
-      let known = stepped s elapsed (evenNext (evenOf s) m) h tells f (evenLast (evenOf s) f) (ap (evenNext (evenOf s)) e) in
-      taken s elapsed (onward Step (withLast s f)) t (known .0) (known .1) told-so
+    pub step-says : (f : Feet) (t : Told) → m ≡ MadeFeet f → t ≡ withKind Step f (ikTold f (s .configuration)) → t ≡ conductTold s elapsed
+    unfolding handed
+    step-says f t e told-so =
+        let known = stepped s elapsed (evenNext (evenOf s) m) h tells f (evenLast (evenOf s) f) (ap (evenNext (evenOf s)) e) in
+        taken s elapsed (onward Step (withLast s f)) t (known .0) (known .1) told-so
 
-  of-end : (b : Bool)
-      → withKind (choose b Planned Rests) (s .last) (ikTold (s .last) (s .configuration))
-      ≡ handed (choose b (onward Planned (plannedState s)) (onward Rests s))
-  unfolding handed
-  of-end true = refl
-  of-end false = refl
+    of-end : (b : Bool)
+        → withKind (choose b Planned Rests) (s .last) (ikTold (s .last) (s .configuration))
+        ≡ handed (choose b (onward Planned (plannedState s)) (onward Rests s))
+    unfolding handed
+    of-end true = refl
+    of-end false = refl
 
-  pub end-says : (t : Told) → m ≡ NothingMade → t ≡ withKind (endKind (s .command)) (s .last) (ikTold (s .last) (s .configuration))
-      → t ≡ conductTold s elapsed
-  end-says t e told-so =
-      let known = none-moves s elapsed (evenNext (evenOf s) m) h tells (ap (evenNext (evenOf s)) e) in
-      taken s elapsed (ended s) t (known .0) (known .1) (told-so ∙ of-end (shouldMove (s .command)))
+    pub end-says : (t : Told) → m ≡ NothingMade → t ≡ withKind (endKind (s .command)) (s .last) (ikTold (s .last) (s .configuration))
+        → t ≡ conductTold s elapsed
+    end-says t e told-so =
+        let known = none-moves s elapsed (evenNext (evenOf s) m) h tells (ap (evenNext (evenOf s)) e) in
+        taken s elapsed (ended s) t (known .0) (known .1) (told-so ∙ of-end (shouldMove (s .command)))
 
-  pub refusal-says : (n : ℕ) → m ≡ MadeRefused n → told (Refused n) ≡ conductTold s elapsed
-  refusal-says n e =
-      let known = step-refused s elapsed (evenNext (evenOf s) m) h tells n (ap (evenNext (evenOf s)) e) in
-      turned-away s elapsed n (known .0) (known .1)
+    pub refusal-says : (n : ℕ) → m ≡ MadeRefused n → told (Refused n) ≡ conductTold s elapsed
+    refusal-says n e =
+        let known = step-refused s elapsed (evenNext (evenOf s) m) h tells n (ap (evenNext (evenOf s)) e) in
+        turned-away s elapsed n (known .0) (known .1)

@@ -20,12 +20,8 @@ use Rattle.steps.proofs.Told.{lift-refusal-is, evenRefusal}
 use Rattle.joints.specs.Configured.{finiteConfiguration, permittedConfiguration}
 use Rattle.joints.proofs.OnePass.{configuration-finite}
 use Rattle.conductor.specs.States.{evenOf, finiteState, permittedState, stateRefusal}
+use Rattle.conductor.specs.How.{othersPermitted}
 use Rattle.conductor.specs.declared.State.{State}
-
--- what the step at even pace does not look at
-abbrev pub othersPermitted : State → Bool
-othersPermitted s =
-    permittedFeet footLimit (s .relaxed) && permittedCommand (s .command) && permittedConfiguration (s .configuration)
 
 -- ---- six tests of which the last three pass, or fail
 six-pass : (a b c d e f : Bool) → (d && e && f) ≡ true → (a && b && c && d && e && f) ≡ (a && b && c)

@@ -3,11 +3,10 @@ use mathlib.Core.Path.{_≡_, sym, ap, _∙_}
 use mathlib.Core.Bool.{Bool, true}
 use Rattle.numbers.specs.Told.{choose}
 use Rattle.commands.specs.declared.Time.{Time}
-use Rattle.steps.specs.How.{courseOf}
 use Rattle.steps.specs.declared.core.Course.{Course}
-use Rattle.conductor.specs.How.{madeUnder}
+use Rattle.conductor.specs.How.{madeUnder, madeOf, othersPermitted}
 use Rattle.conductor.specs.declared.State.{State}
-use Rattle.conductor.proofs.Door.{othersPermitted, configuration-within}
+use Rattle.conductor.proofs.Door.{configuration-within}
 use Rattle.conductor.proofs.Calls.{step-says, end-says, refusal-says, outside-says}
 use borrow.Author.Needs.{needs}
 use Rattle.conductor.proofs.replied.Statement.{statement}
@@ -23,8 +22,7 @@ elapsed c = c .before .before .before .before .args .elapsed
 within : (c : tie.After-made) → othersPermitted (state c) ≡ true
 within c = sym (c .before .before .before .others-permitted .ensures) ∙ c .before .before .if1 .taken
 
-makes : (c : tie.After-made)
-    → let s = state c in c .made .result ≡ madeUnder (courseOf (s .start) (s .last) (s .target)) (s .lifted) (s .command) (elapsed c)
+makes : (c : tie.After-made) → c .made .result ≡ madeOf (state c) (elapsed c)
 makes c =
     c .made .ensures
     ∙ ap (λ (x : Course). madeUnder x (state c .lifted) (state c .command) (elapsed c)) (c .before .course-of .ensures)
