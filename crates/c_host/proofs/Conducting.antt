@@ -10,22 +10,27 @@ use lib.ListN.{length, getD}
 use Rattle.numbers.specs.Told.{Told, refused, choose, answer}
 use Rattle.numbers.specs.Door.{unless, either}
 use Rattle.numbers.proofs.Flags.{where-true, where-false}
+use Rattle.legs.specs.declared.Feet.{Feet}
 use Rattle.legs.specs.declared.Joints.{Joints}
 use Rattle.commands.specs.declared.Time.{Time}
 use Rattle.joints.specs.Configured.{finiteJoints}
 use Rattle.joints.specs.Answers.{legRefused, givenJoints}
 use Rattle.joints.specs.Inverse.{ikTold}
-use Rattle.conductor.specs.States.{finiteState}
+use Rattle.conductor.specs.States.{withLast, plannedState, finiteState}
 use Rattle.conductor.specs.Answers.{told}
 use Rattle.conductor.specs.Conduct.{conductTold, stateAfter}
 use Rattle.conductor.specs.declared.State.{State}
 use Rattle.conductor.specs.declared.Reply.{Reply}
 use Rattle.conductor.specs.declared.Reply.the-variants.{Refused}
-use Rattle.conductor.proofs.Accepted.{Accepted}
+use Rattle.conductor.proofs.Accepted.{Accepted, all-permitted}
+use Rattle.conductor.proofs.Door.{state-finite}
 use Rattle.conductor.proofs.Left.{after-finite, after-held}
 use Rattle.conductor.proofs.Laws.{jointsSaid, jointsAfter, said-joints, solved-after, finite-joints}
+use Rattle.packed.proofs.Back.{AllBytes}
 use Rattle.state_row.specs.Layout.{isState, stateOf, stateBytes, jointBytes, floatsBytes}
-use Rattle.state_row.proofs.Back.{row-held}
+use Rattle.state_row.specs.How.{lastPut, planPut}
+use Rattle.state_row.proofs.Back.{row-held, row-written-again}
+use Rattle.state_row.proofs.Parts.{last-put, plan-put}
 use Rattle.c_host.specs.Rows.{unlessRefused, rowsRefusal, conductRows, result, stateRow, jointsOfLast, jointRow}
 
 module _ (l j : List ℕ) (elapsed : Time) where
@@ -73,6 +78,21 @@ module _ (l j : List ℕ) (elapsed : Time) where
         (none : eqb (told r .number) 0 ≡ true) where
       pub accepted : Accepted (stateOf l) elapsed
       accepted = ap (λ (a : Told). eqb (a .number) 0) (sym e) ∙ none
+
+      -- the row is the bytes of its state, so that what is stored of the next one makes it the bytes of that
+      pub row-again : AllBytes l → l ≡ stateBytes (stateOf l)
+      row-again small =
+          sym (row-written-again l small g (state-finite (stateOf l) (all-permitted (stateOf l) elapsed accepted)))
+
+      pub last-stored : AllBytes l → (f : Feet) → lastPut l f ≡ stateBytes (withLast (stateOf l) f)
+      last-stored small f = ap (λ (m : List ℕ). lastPut m f) (row-again small) ∙ last-put (stateOf l) f
+
+      pub plan-stored : AllBytes l
+          → let p = plannedState (stateOf l) in planPut l (stateOf l .last) (p .target) (p .lifted) ≡ stateBytes p
+      plan-stored small =
+          let p = plannedState (stateOf l) in
+          ap (λ (m : List ℕ). planPut m (stateOf l .last) (p .target) (p .lifted)) (row-again small)
+          ∙ plan-put (stateOf l) (p .target) (p .lifted)
 
       pub stored-finite : finiteState s ≡ true
       stored-finite = ap finiteState after ∙ after-finite (stateOf l) elapsed accepted (row-held l)

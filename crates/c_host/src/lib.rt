@@ -3,16 +3,16 @@
 use commands::MoveCommand;
 use commands::Time;
 use conductor::Reply;
-use conductor::State;
-use legs::Joints;
 ghost use mathlib.Core.Path.{_≡_};
 ghost use mathlib.Core.Bool.{true};
 ghost use lib.ListN.{length};
-ghost use Rattle.joints.specs.Configured.{finiteJoints};
-ghost use Rattle.conductor.specs.States.{finiteState};
-ghost use Rattle.state_row.specs.Layout.{stateBytes, jointBytes};
+ghost use Rattle.conductor.specs.States.{finiteState, plannedState};
+ghost use Rattle.state_row.specs.Layout.{stateOf};
+ghost use Rattle.state_row.specs.How.{planPut};
 ghost use Rattle.c_host.specs.Rows.{time, conductRows, result, stateRow, jointRow, standRefusal, standRow};
 ghost use Rattle.c_host.specs.Rows.{asked, commandRowRefusal, commandRow};
+
+mod said;
 
 // A fresh state: start, last, target and relaxed feet are the given ones, all standing, LRL is lifted, and the command stands still. The
 // refusal's number, or 0; a refusal leaves the state's row.
@@ -82,13 +82,20 @@ pub extern "C" fn hopper_command(
     0
 }
 
-// The state and its joints go into their rows.
-fn hand_over(state: &mut [u8], joints: &mut [u8], next: State, angles: Joints)
-    requires { ⌜ (length (now state) ≡ 506) × (length (now joints) ≡ 72) × (finiteState next ≡ true) × (finiteJoints angles ≡ true) ⌝ }
-    ensures { λ _. ⌜ (now (state .exit) ≡ stateBytes next) × (now (joints .exit) ≡ jointBytes angles) ⌝ }
+// The plan of a row's state goes into the row.
+fn put_planned(state: &mut [u8])
+    requires { ⌜ (length (now state) ≡ 506) × (finiteState (plannedState (stateOf (now state))) ≡ true) ⌝ }
+    ensures { λ _. ⌜ now (state .exit)
+        ≡ planPut (now (state .entry)) (stateOf (now (state .entry)) .last) (plannedState (stateOf (now (state .entry))) .target)
+        (plannedState (stateOf (now (state .entry))) .lifted) ⌝ }
 {
-    state_row::put_state(state, next);
-    state_row::put_joints(joints, angles);
+    let lifted = state_row::tripod_of(state[504]);
+    let other = lifted.invert();
+    let last = packed::feet_in(state, 486, 72);
+    let relaxed = packed::feet_in(state, 498, 216);
+    let command = state_row::command_at(state);
+    let target = conductor::core::next_target(last, relaxed, other, command);
+    state_row::put_plan(state, last, target, other);
 }
 
 // One call a tick: the step goes on, the next is planned, or the crawler rests, and the joints of the last feet are handed over. The low
@@ -115,19 +122,19 @@ pub extern "C" fn hopper_conduct(
         seconds: seconds,
         nanoseconds: nanoseconds,
     };
-    let after = conductor::conducted(state_row::state_at(state), elapsed);
-    let reply = after.reply;
-    match reply {
-        Reply::Step(_, angles) => {
-            hand_over(state, joints, after.state, angles);
+    match said::replied(state, elapsed) {
+        Reply::Step(feet, angles) => {
+            state_row::put_last(state, feet);
+            state_row::put_joints(joints, angles);
             0
         }
         Reply::Planned(angles) => {
-            hand_over(state, joints, after.state, angles);
+            put_planned(state);
+            state_row::put_joints(joints, angles);
             256
         }
         Reply::Rests(angles) => {
-            hand_over(state, joints, after.state, angles);
+            state_row::put_joints(joints, angles);
             512
         }
         Reply::Refused(number) => number,

@@ -8,36 +8,41 @@ use lib.Dec.{eqb}
 use lib.ListN.{length}
 use borrow.Author.Tests.{eq-eqb, ne-eqb}
 use Rattle.numbers.proofs.Flags.{not-true, not-false}
+use Rattle.legs.specs.declared.Feet.{Feet}
 use Rattle.legs.specs.declared.Joints.{Joints}
 use Rattle.commands.specs.declared.Time.{Time}
 use Rattle.joints.specs.Configured.{finiteJoints}
-use Rattle.conductor.specs.States.{finiteState}
+use Rattle.conductor.specs.States.{withLast, plannedState, finiteState}
 use Rattle.conductor.specs.Answers.{told}
-use Rattle.conductor.specs.Conduct.{conductTold, stateAfter}
+use Rattle.conductor.specs.Conduct.{conductTold}
+use Rattle.conductor.specs.How.{afterReply}
 use Rattle.conductor.specs.declared.State.{State}
 use Rattle.conductor.specs.declared.Reply.{Reply}
 use Rattle.conductor.specs.declared.Reply.the-variants.{Step, Planned, Rests, Refused, LegRefused}
-use Rattle.conductor.proofs.Laws.{jointsSaid, refusal-said, leg-said}
+use Rattle.conductor.proofs.Laws.{jointsSaid, refusal-said, leg-said, said-settles}
 use Rattle.state_row.specs.Layout.{isState, stateOf, stateBytes, jointBytes}
+use Rattle.state_row.specs.How.{lastPut, planPut}
+use Rattle.packed.proofs.Back.{AllBytes}
 use Rattle.state_row.proofs.Back.{state-row-length}
+use Rattle.state_row.proofs.Finite.{of-state}
 use Rattle.c_host.specs.Rows.{result}
 use Rattle.c_host.proofs.Conducting.{Leaves, no-joint-row, no-state-row, refused-call, refused-number}
-use Rattle.c_host.proofs.Conducting.{stored-finite, joints-finite, stored-call}
+use Rattle.c_host.proofs.Conducting.{stored-finite, joints-finite, stored-call, last-stored, plan-stored, row-again}
 use borrow.Author.Needs.{needs}
 use Rattle.c_host.proofs.hopper_conduct.Statement.{statement}
 use Rattle.c_host.proofs.hopper_conduct.Tie as tie
 
--- once the state is conducted: what came in, and what is known of it
-abbrev start : tie.After-conducted → tie.Start
-start c = c .before .before .before .before .before .before .before .before .before
+-- once the call is made: what came in, and what is known of it
+abbrev start : tie.After-replied → tie.Start
+start c = c .before .before .before .before .before .before .before .before
 
-abbrev row : tie.After-conducted → List ℕ
+abbrev row : tie.After-replied → List ℕ
 row c = start c .args .state .now
 
-abbrev joints : tie.After-conducted → List ℕ
+abbrev joints : tie.After-replied → List ℕ
 joints c = start c .args .joints .now
 
-abbrev time : tie.After-conducted → Time
+abbrev time : tie.After-replied → Time
 time c = record { seconds = start c .args .seconds; nanoseconds = start c .args .nanoseconds }
 
 returns : tie.Need-returns
@@ -46,24 +51,18 @@ returns c =
     no-joint-row (came .state .now) (came .joints .now) (record { seconds = came .seconds; nanoseconds = came .nanoseconds })
     (ne-eqb (length (came .joints .now)) 72 (c .if1 .taken))
 
--- the joints' row has its length, and the state's row is one
-joint-length : (c : tie.After-conducted) → length (joints c) ≡ 72
-joint-length c = c .before .before .before .before .before .before .if1 .left
+-- the joints' row has its length, and the state's row is one, of bytes
+joint-length : (c : tie.After-replied) → length (joints c) ≡ 72
+joint-length c = c .before .before .before .before .before .if1 .left
 
-joint-row : (c : tie.After-conducted) → eqb (length (joints c)) 72 ≡ true
+joint-row : (c : tie.After-replied) → eqb (length (joints c)) 72 ≡ true
 joint-row c = eq-eqb (length (joints c)) 72 (joint-length c)
 
-good : (c : tie.After-conducted) → isState (row c) ≡ true
-good c = sym (c .before .before .before .before .is-state .ensures) ∙ not-false _ (c .before .before .before .if2 .left)
+good : (c : tie.After-replied) → isState (row c) ≡ true
+good c = sym (c .before .before .before .is-state .ensures) ∙ not-false _ (c .before .before .if2 .left)
 
--- what the call by value says of the row's state
-known : (c : tie.After-conducted)
-    → (told (c .conducted .result .reply) ≡ conductTold (stateOf (row c)) (time c))
-    × (c .conducted .result .state ≡ stateAfter (stateOf (row c)) (time c))
-known c = (
-  c .conducted .ensures .0 ∙ ap (λ (s : State). conductTold s (time c)) (c .before .state-at .ensures),
-  c .conducted .ensures .1 ∙ ap (λ (s : State). stateAfter s (time c)) (c .before .state-at .ensures),
-)
+small : (c : tie.After-replied) → AllBytes (row c)
+small c i = c .before .before .before .before .before .before .before .slice-known .given i .fits
 
 returns-2 : tie.Need-returns-2
 returns-2 c =
@@ -73,57 +72,99 @@ returns-2 c =
     (eq-eqb (length (came .joints .now)) 72 (tested .before .before .if1 .left))
     (sym (tested .is-state .ensures) ∙ not-true _ (c .if2 .taken))
 
-state-at-requires : tie.Need-state-at-requires
-state-at-requires c κs =
+replied-requires : tie.Need-replied-requires
+replied-requires c κs =
     let tested = c .before .before in
     state-row-length (tested .before .before .before .before .before .args .state .now)
     (sym (tested .is-state .ensures) ∙ not-false _ (c .before .if2 .left))
 
--- a reply that refuses nothing: what storing its state and joints asks, and what is then in the rows
-module _ (c : tie.After-conducted) (r : Reply) (d : Joints) (is : c .conducted .result .reply ≡ r) (none : eqb (told r .number) 0 ≡ true)
-  where
-    says : told r ≡ conductTold (stateOf (row c)) (time c)
-    says = ap told (sym is) ∙ known c .0
+-- a reply that refuses nothing: the state after it, what storing that state and the joints asks, and what is then in the rows
+module _ (c : tie.After-replied) (r : Reply) (d : Joints) (is : c .replied .result ≡ r) (none : eqb (told r .number) 0 ≡ true) where
+  says : told r ≡ conductTold (stateOf (row c)) (time c)
+  says = ap told (sym is) ∙ c .replied .ensures
 
-    ready : (length (row c) ≡ 506)
-        × (length (joints c) ≡ 72)
-        × (finiteState (c .conducted .result .state) ≡ true)
-        × (finiteJoints (jointsSaid d r) ≡ true)
-    ready = (
-      state-row-length (row c) (good c),
-      joint-length c,
-      stored-finite (row c) (joints c) (time c) (joint-row c) (good c) r _ says (known c .1) none,
-      joints-finite (row c) (joints c) (time c) (joint-row c) (good c) r _ says (known c .1) none d,
+  abbrev next : State
+  next = afterReply (stateOf (row c)) r
+
+  finite : finiteState next ≡ true
+  finite =
+      stored-finite (row c) (joints c) (time c) (joint-row c) (good c) r next says (said-settles (stateOf (row c)) (time c) r says) none
+
+  joints-ready : (length (joints c) ≡ 72) × (finiteJoints (jointsSaid d r) ≡ true)
+  joints-ready = (
+    joint-length c,
+    joints-finite (row c) (joints c) (time c) (joint-row c) (good c) r next says (said-settles (stateOf (row c)) (time c) r says) none d,
+  )
+
+  stored : (l' j' : List ℕ) → l' ≡ stateBytes next → j' ≡ jointBytes (jointsSaid d r)
+      → Leaves (row c) (joints c) (time c) (result (told r)) l' j'
+  stored =
+      stored-call (row c) (joints c) (time c) (joint-row c) (good c) r next says (said-settles (stateOf (row c)) (time c) r says) none d
+
+  -- what each kind stores makes the row the bytes of the state after
+  last-row : (f : Feet) → lastPut (row c) f ≡ stateBytes (withLast (stateOf (row c)) f)
+  last-row =
+      last-stored (row c) (joints c) (time c) (joint-row c) (good c) r next says (said-settles (stateOf (row c)) (time c) r says) none
+      (small c)
+
+  plan-row : let p = plannedState (stateOf (row c)) in planPut (row c) (stateOf (row c) .last) (p .target) (p .lifted) ≡ stateBytes p
+  plan-row =
+      plan-stored (row c) (joints c) (time c) (joint-row c) (good c) r next says (said-settles (stateOf (row c)) (time c) r says) none
+      (small c)
+
+  same-row : row c ≡ stateBytes (stateOf (row c))
+  same-row =
+      row-again (row c) (joints c) (time c) (joint-row c) (good c) r next says (said-settles (stateOf (row c)) (time c) r says) none
+      (small c)
+
+put-last-requires : tie.Need-put-last-requires
+unfolding told
+put-last-requires c κs =
+    let found = c .before .before in
+    let asked = found .before .before in
+    let said = found .feet .given in (
+      state-row-length (row asked) (good asked),
+      of-state _ (finite asked (Step (said .0 .0) (said .0 .1 .0)) (said .0 .1 .0) (said .1) refl) .1,
     )
 
-    stored : (l' j' : List ℕ) → l' ≡ stateBytes (c .conducted .result .state) → j' ≡ jointBytes (jointsSaid d r)
-        → Leaves (row c) (joints c) (time c) (result (told r)) l' j'
-    stored = stored-call (row c) (joints c) (time c) (joint-row c) (good c) r _ says (known c .1) none d
-
-hand-over-requires : tie.Need-hand-over-requires
+put-joints-requires : tie.Need-put-joints-requires
 unfolding told
-hand-over-requires c κs =
-    let said = c .before .before .before .reply .given in
-    ready (c .before .before .before .before .before) (Step (said .0 .0) (said .0 .1 .0)) (said .0 .1 .0) (said .1) refl
+put-joints-requires c κs =
+    let found = c .before .before .before .before .before .before in
+    let said = found .feet .given in
+    joints-ready (found .before .before) (Step (said .0 .0) (said .0 .1 .0)) (said .0 .1 .0) (said .1) refl
 
-hand-over-requires-2 : tie.Need-hand-over-requires-2
+put-planned-requires : tie.Need-put-planned-requires
 unfolding told
-hand-over-requires-2 c κs =
-    let said = c .before .before .before .reply2 .given in
-    ready (c .before .before .before .before .before) (Planned (said .0 .0)) (said .0 .0) (said .1) refl
+put-planned-requires c κs =
+    let found = c .before .before in
+    let asked = found .before .before in
+    let said = found .angles .given in (
+      state-row-length (row asked) (good asked),
+      finite asked (Planned (said .0 .0)) (said .0 .0) (said .1) refl,
+    )
 
-hand-over-requires-3 : tie.Need-hand-over-requires-3
+put-joints-requires-2 : tie.Need-put-joints-requires-2
 unfolding told
-hand-over-requires-3 c κs =
-    let said = c .before .before .before .reply3 .given in
-    ready (c .before .before .before .before .before) (Rests (said .0 .0)) (said .0 .0) (said .1) refl
+put-joints-requires-2 c κs =
+    let found = c .before .before .before .before .before .before in
+    let said = found .angles .given in
+    joints-ready (found .before .before) (Planned (said .0 .0)) (said .0 .0) (said .1) refl
+
+put-joints-requires-3 : tie.Need-put-joints-requires-3
+unfolding told
+put-joints-requires-3 c κs =
+    let found = c .before .before in
+    let said = found .angles2 .given in
+    joints-ready (found .before .before) (Rests (said .0 .0)) (said .0 .0) (said .1) refl
 
 -- the leg and the number of a refusal that names one are small
-named : (c : tie.After-reply5) → (c .reply5 .given .0 .1 .0 ≤ 5) × (c .reply5 .given .0 .0 ≤ 8) × (eqb (c .reply5 .given .0 .0) 0 ≡ false)
+named : (c : tie.After-number2)
+    → (c .number2 .given .0 .1 .0 ≤ 5) × (c .number2 .given .0 .0 ≤ 8) × (eqb (c .number2 .given .0 .0) 0 ≡ false)
 named c =
     let asked = c .before .before in
-    let said = c .reply5 .given in
-    leg-said (stateOf (row asked)) (time asked) (said .0 .0) (said .0 .1 .0) (ap told (sym (said .1)) ∙ known asked .0)
+    let said = c .number2 .given in
+    leg-said (stateOf (row asked)) (time asked) (said .0 .0) (said .0 .1 .0) (ap told (sym (said .1)) ∙ asked .replied .ensures)
 
 mul-result : tie.Need-mul-result
 mul-result c = let k = named (c .before) .0 in record { fits = omega (arith, k) }
@@ -137,36 +178,42 @@ add-result c =
 returns-3 : tie.Need-returns-3
 unfolding told
 returns-3 c =
-    let held = c .before .before .before .before in
-    let found = held .before .before .before .before in
-    let said = found .reply .given in
-    stored (found .before .before) (Step (said .0 .0) (said .0 .1 .0)) (said .0 .1 .0) (said .1) refl _ _
-    (held .hand-over .ensures .0) (held .hand-over .ensures .1)
+    let held = c .before .before in
+    let put = held .before .before .before .before in
+    let found = put .before .before .before in
+    let asked = found .before .before in
+    let said = found .feet .given in
+    let reply = Step (said .0 .0) (said .0 .1 .0) in
+    stored asked reply (said .0 .1 .0) (said .1) refl _ _
+    (put .put-last .ensures ∙ last-row asked reply (said .0 .1 .0) (said .1) refl (said .0 .0)) (held .put-joints .ensures)
 
 returns-4 : tie.Need-returns-4
 unfolding told
 returns-4 c =
-    let held = c .before .before .before .before in
-    let found = held .before .before .before .before in
-    let said = found .reply2 .given in
-    stored (found .before .before) (Planned (said .0 .0)) (said .0 .0) (said .1) refl _ _
-    (held .hand-over2 .ensures .0) (held .hand-over2 .ensures .1)
+    let held = c .before .before in
+    let put = held .before .before .before .before in
+    let found = put .before .before .before in
+    let asked = found .before .before in
+    let said = found .angles .given in
+    stored asked (Planned (said .0 .0)) (said .0 .0) (said .1) refl _ _
+    (put .put-planned .ensures ∙ plan-row asked (Planned (said .0 .0)) (said .0 .0) (said .1) refl) (held .put-joints2 .ensures)
 
 returns-5 : tie.Need-returns-5
 unfolding told
 returns-5 c =
-    let held = c .before .before .before .before in
-    let found = held .before .before .before .before in
-    let said = found .reply3 .given in
-    stored (found .before .before) (Rests (said .0 .0)) (said .0 .0) (said .1) refl _ _
-    (held .hand-over3 .ensures .0) (held .hand-over3 .ensures .1)
+    let held = c .before .before in
+    let found = held .before .before .before in
+    let asked = found .before .before in
+    let said = found .angles2 .given in
+    stored asked (Rests (said .0 .0)) (said .0 .0) (said .1) refl _ _
+    (same-row asked (Rests (said .0 .0)) (said .0 .0) (said .1) refl) (held .put-joints3 .ensures)
 
 returns-6 : tie.Need-returns-6
 returns-6 c =
     let found = c .before in
     let asked = found .before .before in
-    let said = found .reply4 .given in
-    let e = ap told (sym (said .1)) ∙ known asked .0 in
+    let said = found .number .given in
+    let e = ap told (sym (said .1)) ∙ asked .replied .ensures in
     refused-number (row asked) (joints asked) (time asked) (joint-row asked) (good asked) (said .0 .0) e
     (refusal-said (stateOf (row asked)) (time asked) (said .0 .0) e)
 
@@ -175,8 +222,8 @@ unfolding told
 returns-7 c =
     let found = c .before in
     let asked = found .before .before in
-    let said = found .reply5 .given in
-    let e = ap told (sym (said .1)) ∙ known asked .0 in
+    let said = found .number2 .given in
+    let e = ap told (sym (said .1)) ∙ asked .replied .ensures in
     refused-call (row asked) (joints asked) (time asked) (joint-row asked) (good asked) (LegRefused (said .0 .0) (said .0 .1 .0)) e
     (named found .2)
 
@@ -188,14 +235,15 @@ hopper-conduct-spec =
     (λ c κs. search needs)
     (λ c. search needs)
     returns-2
-    state-at-requires
-    (λ c κs. search needs)
+    replied-requires
     (λ c. search needs)
-    hand-over-requires
+    put-last-requires
+    put-joints-requires
     (λ c. search needs)
-    hand-over-requires-2
+    put-planned-requires
+    put-joints-requires-2
     (λ c. search needs)
-    hand-over-requires-3
+    put-joints-requires-3
     (λ c. search needs)
     (λ c. search needs)
     mul-result
