@@ -19,13 +19,14 @@ use Rattle.joints.specs.Inverse.{ikTold}
 use Rattle.conductor.specs.States.{withLast, plannedState, finiteState}
 use Rattle.conductor.specs.Answers.{told}
 use Rattle.conductor.specs.Conduct.{conductTold, stateAfter}
+use Rattle.conductor.specs.How.{afterReply}
 use Rattle.conductor.specs.declared.State.{State}
 use Rattle.conductor.specs.declared.Reply.{Reply}
 use Rattle.conductor.specs.declared.Reply.the-variants.{Refused}
 use Rattle.conductor.proofs.Accepted.{Accepted, all-permitted}
 use Rattle.conductor.proofs.Door.{state-finite}
 use Rattle.conductor.proofs.Left.{after-finite, after-held}
-use Rattle.conductor.proofs.Laws.{jointsSaid, jointsAfter, said-joints, solved-after, finite-joints}
+use Rattle.conductor.proofs.Laws.{jointsSaid, jointsAfter, said-joints, solved-after, finite-joints, said-settles}
 use Rattle.packed.proofs.Back.{AllBytes}
 use Rattle.state_row.specs.Layout.{isState, stateOf, stateBytes, jointBytes, floatsBytes}
 use Rattle.state_row.specs.How.{lastPut, planPut}
@@ -74,9 +75,14 @@ module _ (l j : List ℕ) (elapsed : Time) where
     refused-number n e some = let a = refused-call (Refused n) e some in (sym (add-zero n) ∙ a .0, a .1, a .2)
 
     -- ---- a state is stored, and its joints
-    module _ (r : Reply) (s : State) (e : told r ≡ conductTold (stateOf l) elapsed) (after : s ≡ stateAfter (stateOf l) elapsed)
-        (none : eqb (told r .number) 0 ≡ true) where
-      pub accepted : Accepted (stateOf l) elapsed
+    module _ (r : Reply) (e : told r ≡ conductTold (stateOf l) elapsed) (none : eqb (told r .number) 0 ≡ true) where
+      abbrev next : State
+      next = afterReply (stateOf l) r
+
+      after : next ≡ stateAfter (stateOf l) elapsed
+      after = said-settles (stateOf l) elapsed r e
+
+      accepted : Accepted (stateOf l) elapsed
       accepted = ap (λ (a : Told). eqb (a .number) 0) (sym e) ∙ none
 
       -- the row is the bytes of its state, so that what is stored of the next one makes it the bytes of that
@@ -94,7 +100,7 @@ module _ (l j : List ℕ) (elapsed : Time) where
           ap (λ (m : List ℕ). planPut m (stateOf l .last) (p .target) (p .lifted)) (row-again small)
           ∙ plan-put (stateOf l) (p .target) (p .lifted)
 
-      pub stored-finite : finiteState s ≡ true
+      pub stored-finite : finiteState next ≡ true
       stored-finite = ap finiteState after ∙ after-finite (stateOf l) elapsed accepted (row-held l)
 
       pub joints-finite : (d : Joints) → finiteJoints (jointsSaid d r) ≡ true
@@ -102,7 +108,7 @@ module _ (l j : List ℕ) (elapsed : Time) where
           ap finiteJoints (said-joints (stateOf l) elapsed accepted r d e)
           ∙ finite-joints (stateOf l) elapsed accepted (after-held (stateOf l) elapsed accepted (row-held l) .configuration)
 
-      pub stored-call : (d : Joints) (l' j' : List ℕ) → l' ≡ stateBytes s → j' ≡ jointBytes (jointsSaid d r)
+      pub stored-call : (d : Joints) (l' j' : List ℕ) → l' ≡ stateBytes next → j' ≡ jointBytes (jointsSaid d r)
           → Leaves (result (told r)) l' j'
       unfolding stateRow jointRow jointBytes
       stored-call d l' j' a b =

@@ -21,7 +21,7 @@ ghost use Rattle.joints.specs.Configured.{permittedConfiguration};
 ghost use Rattle.joints.specs.Answers.{told as toldJoints};
 ghost use Rattle.joints.specs.Inverse.{ikTold};
 ghost use Rattle.conductor.specs.Answers.{Step, told, withKind};
-ghost use Rattle.conductor.specs.How.{madeUnder, endKind};
+ghost use Rattle.conductor.specs.How.{liftUnder, madeUnder, endKind};
 
 // Whether what the step does not look at itself is in the table: the relaxed feet, the command's floats, the configuration.
 pub fn others_permitted(relaxed: Feet, command: MoveCommand, configuration: Configuration) -> bool
@@ -32,18 +32,24 @@ pub fn others_permitted(relaxed: Feet, command: MoveCommand, configuration: Conf
         & joints::configuration::permitted(configuration)
 }
 
-// The step of a course at even pace: in the command's step time, over the command's height, with no descent.
-pub fn made(course: Course, lifted: Tripod, command: MoveCommand, elapsed: Time) -> Made
-    ensures { λ r. ⌜ r ≡ madeUnder course lifted command elapsed ⌝ }
+// How the feet are lifted under a command: over its height, with no descent.
+fn lift_under(lifted: Tripod, command: MoveCommand) -> Lift
+    ensures { λ r. ⌜ r ≡ liftUnder lifted command ⌝ }
 {
-    let period = command.step_time;
-    let lift = Lift {
+    Lift {
         step_height: command.step_height,
         grounded_leg_descent: 0.0,
         tripod: lifted,
         aggressive_leg_lift: command.aggressive_leg_lift,
-    };
-    steps::core::even_made(course, period, lift, elapsed)
+    }
+}
+
+// The step of a course under a command, at even pace and in the command's step time.
+pub fn made(course: Course, lifted: Tripod, command: MoveCommand, elapsed: Time) -> Made
+    ensures { λ r. ⌜ r ≡ madeUnder course lifted command elapsed ⌝ }
+{
+    let period = command.step_time;
+    steps::core::even_made(course, period, lift_under(lifted, command), elapsed)
 }
 
 // The joints of these feet, where they are in the table; the configuration is.

@@ -16,10 +16,9 @@ use Rattle.conductor.specs.States.{withLast, plannedState, finiteState}
 use Rattle.conductor.specs.Answers.{told}
 use Rattle.conductor.specs.Conduct.{conductTold}
 use Rattle.conductor.specs.How.{afterReply}
-use Rattle.conductor.specs.declared.State.{State}
 use Rattle.conductor.specs.declared.Reply.{Reply}
 use Rattle.conductor.specs.declared.Reply.the-variants.{Step, Planned, Rests, Refused, LegRefused}
-use Rattle.conductor.proofs.Laws.{jointsSaid, refusal-said, leg-said, said-settles}
+use Rattle.conductor.proofs.Laws.{jointsSaid, refusal-said, leg-said}
 use Rattle.state_row.specs.Layout.{isState, stateOf, stateBytes, jointBytes}
 use Rattle.state_row.specs.How.{lastPut, planPut}
 use Rattle.packed.proofs.Back.{AllBytes}
@@ -83,39 +82,25 @@ module _ (c : tie.After-replied) (r : Reply) (d : Joints) (is : c .replied .resu
   says : told r ≡ conductTold (stateOf (row c)) (time c)
   says = ap told (sym is) ∙ c .replied .ensures
 
-  abbrev next : State
-  next = afterReply (stateOf (row c)) r
-
-  finite : finiteState next ≡ true
-  finite =
-      stored-finite (row c) (joints c) (time c) (joint-row c) (good c) r next says (said-settles (stateOf (row c)) (time c) r says) none
+  finite : finiteState (afterReply (stateOf (row c)) r) ≡ true
+  finite = stored-finite (row c) (joints c) (time c) (joint-row c) (good c) r says none
 
   joints-ready : (length (joints c) ≡ 72) × (finiteJoints (jointsSaid d r) ≡ true)
-  joints-ready = (
-    joint-length c,
-    joints-finite (row c) (joints c) (time c) (joint-row c) (good c) r next says (said-settles (stateOf (row c)) (time c) r says) none d,
-  )
+  joints-ready = (joint-length c, joints-finite (row c) (joints c) (time c) (joint-row c) (good c) r says none d)
 
-  stored : (l' j' : List ℕ) → l' ≡ stateBytes next → j' ≡ jointBytes (jointsSaid d r)
+  stored : (l' j' : List ℕ) → l' ≡ stateBytes (afterReply (stateOf (row c)) r) → j' ≡ jointBytes (jointsSaid d r)
       → Leaves (row c) (joints c) (time c) (result (told r)) l' j'
-  stored =
-      stored-call (row c) (joints c) (time c) (joint-row c) (good c) r next says (said-settles (stateOf (row c)) (time c) r says) none d
+  stored = stored-call (row c) (joints c) (time c) (joint-row c) (good c) r says none d
 
   -- what each kind stores makes the row the bytes of the state after
   last-row : (f : Feet) → lastPut (row c) f ≡ stateBytes (withLast (stateOf (row c)) f)
-  last-row =
-      last-stored (row c) (joints c) (time c) (joint-row c) (good c) r next says (said-settles (stateOf (row c)) (time c) r says) none
-      (small c)
+  last-row = last-stored (row c) (joints c) (time c) (joint-row c) (good c) r says none (small c)
 
   plan-row : let p = plannedState (stateOf (row c)) in planPut (row c) (stateOf (row c) .last) (p .target) (p .lifted) ≡ stateBytes p
-  plan-row =
-      plan-stored (row c) (joints c) (time c) (joint-row c) (good c) r next says (said-settles (stateOf (row c)) (time c) r says) none
-      (small c)
+  plan-row = plan-stored (row c) (joints c) (time c) (joint-row c) (good c) r says none (small c)
 
   same-row : row c ≡ stateBytes (stateOf (row c))
-  same-row =
-      row-again (row c) (joints c) (time c) (joint-row c) (good c) r next says (said-settles (stateOf (row c)) (time c) r says) none
-      (small c)
+  same-row = row-again (row c) (joints c) (time c) (joint-row c) (good c) r says none (small c)
 
 put-last-requires : tie.Need-put-last-requires
 unfolding told

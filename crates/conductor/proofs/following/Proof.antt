@@ -5,6 +5,9 @@ use borrow.Author.Needs.{needs}
 use Rattle.conductor.proofs.following.Statement.{statement}
 use Rattle.conductor.proofs.following.Tie as tie
 
+leg-refused : tie.Need-enum-told-4
+leg-refused c = search needs
+
 returns : tie.Need-returns
 returns c =
     let found = c .before .before in
@@ -34,7 +37,7 @@ following-spec =
     (λ _ _. tt)
     (λ c. search needs)
     (λ c. search needs)
-    (λ c. search needs)
+    leg-refused
     returns
     returns-2
     returns-3
