@@ -12,7 +12,7 @@ ghost use Rattle.walks.specs.Walk.{Walk, WalkFeet};
 ghost use Rattle.walks.specs.Reach.{Reach, ReachFeet};
 
 // Each answer is fed back until none moves; the steps that moved are counted. A step is
-// `moves::core::move_towards`, in its parts.
+// `moves::core::move_towards`, in its two parts.
 pub fn walk(max_move: f32, start: Point, target: Point) -> u32
     requires { ⌜ Reach «max_move» start target ⌝ }
     ensures { λ k. ⌜ Walk «max_move» start target k ⌝ }
@@ -23,8 +23,7 @@ pub fn walk(max_move: f32, start: Point, target: Point) -> u32
         if moves::core::is_same(last, target) {
             return count;
         }
-        let d = roots::core::square_root(moves::core::square_sum(last, target));
-        last = moves::core::nearer(d, last, target, max_move);
+        last = moves::core::onward(last, target, max_move);
         count += 1;
     }
 }

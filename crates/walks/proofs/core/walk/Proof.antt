@@ -7,8 +7,7 @@ use native.Mathlib.Omega.{arith}
 use borrow.Author.Needs.{needs}
 use lib.Ieee.{Float}
 use Rattle.legs.specs.declared.Point.{Point}
-use Rattle.roots.specs.Root.{squareRoot}
-use Rattle.moves.specs.Distance.{same, squareSum, distance}
+use Rattle.moves.specs.Distance.{same, distance}
 use Rattle.moves.specs.Moving.{nearer, moveTowards}
 use Rattle.moves.specs.declared.MoveStep.the-variants.{Moved}
 use Rattle.moves.proofs.Steps.{stands, moves}
@@ -24,11 +23,9 @@ Inv-loop max-move target last₀ count₀ last count = Going max-move last₀ ta
 abbrev μ-loop : tie.MeasureT-loop
 μ-loop max-move target last₀ count₀ last count = spread last target
 
--- the calls of a step that moves, together
-step : (m : Float) (l t p : Point) (q d : Float) (b : Bool) → b ≡ same l t → b ≡ false → q ≡ squareSum l t → d ≡ squareRoot q
-    → p ≡ nearer d l t m → moveTowards l t m ≡ Moved p
-unfolding distance
-step m l t p q d b e f g r h = moves l t m (sym e ∙ f) ∙ ap Moved (sym (h ∙ ap (λ (x : Float). nearer x l t m) (r ∙ ap squareRoot g)))
+-- the two calls of a step that moves, together
+step : (m : Float) (l t p : Point) (b : Bool) → b ≡ same l t → b ≡ false → p ≡ nearer (distance l t) l t m → moveTowards l t m ≡ Moved p
+step m l t p b e f h = moves l t m (sym e ∙ f) ∙ ap Moved (sym h)
 
 loop-holds : tie.Need-loop-holds Inv-loop μ-loop
 loop-holds c =
@@ -46,35 +43,25 @@ returns c =
 
 add-count : tie.Need-add-count Inv-loop μ-loop
 add-count c =
-    let g = c .before .before .before .before .before .loop in
+    let g = c .before .before .before .loop in
     let few : g .count ≤ 147457 = going-few _ _ _ (g .last) (g .count) (g .inv) in
     record { fits = omega arith }
 
 loop-less : tie.Need-loop-less Inv-loop μ-loop
 loop-less c =
-    let g = c .before .before .before .before .before .loop in
-    going-nearer _ _ _ (g .last) (c .nearer .result) (g .count) (g .inv)
-    (step _ _ _ _ _ _ _
-    (c .before .before .before .before .is-same .ensures)
-    (c .before .before .before .if1 .left)
-    (c .before .before .square-sum .ensures)
-    (c .before .square-root .ensures)
-    (c .nearer .ensures))
+    let g = c .before .before .before .loop in
+    going-nearer _ _ _ (g .last) (c .onward .result) (g .count) (g .inv)
+    (step _ _ _ _ _ (c .before .before .is-same .ensures) (c .before .if1 .left) (c .onward .ensures))
 
 loop-again : tie.Need-loop-again Inv-loop μ-loop
 loop-again c =
-    let g = c .before .before .before .before .before .loop in
-    going-on _ _ _ (g .last) (c .nearer .result) (g .count) (g .inv)
-    (step _ _ _ _ _ _ _
-    (c .before .before .before .before .is-same .ensures)
-    (c .before .before .before .if1 .left)
-    (c .before .before .square-sum .ensures)
-    (c .before .square-root .ensures)
-    (c .nearer .ensures))
+    let g = c .before .before .before .loop in
+    going-on _ _ _ (g .last) (c .onward .result) (g .count) (g .inv)
+    (step _ _ _ _ _ (c .before .before .is-same .ensures) (c .before .if1 .left) (c .onward .ensures))
 
 pub walk-spec : {M : Type 1} → statement M
 walk-spec =
     tie.close
     (tie.spec
-    Inv-loop μ-loop loop-holds (λ _ _. tt) returns (λ _ _. tt) (λ _ _. tt) (λ _ _. tt) add-count loop-less
+    Inv-loop μ-loop loop-holds (λ _ _. tt) returns (λ _ _. tt) add-count loop-less
     loop-again)
