@@ -82,6 +82,7 @@ use Rattle.legs.proofs.core.points_finite.Reads as legs-core-points-finite
 use Rattle.legs.proofs.core.points_permitted.Reads as legs-core-points-permitted
 use Rattle.legs.proofs.core.feet_finite.Reads as legs-core-feet-finite
 use Rattle.legs.proofs.core.feet_permitted.Reads as legs-core-feet-permitted
+use Rattle.legs.proofs.core.feet_in_limits.Reads as legs-core-feet-in-limits
 use Rattle.legs.proofs.core.mask_refused.Reads as legs-core-mask-refused
 use Rattle.legs.proofs.core.merge_with.Reads as legs-core-merge-with
 use Rattle.legs.proofs.core.selected_legs.Reads as legs-core-selected-legs
@@ -115,6 +116,7 @@ use Rattle.moves.proofs.core.is_same.Reads as moves-core-is-same
 use Rattle.moves.proofs.core.square_sum.Reads as moves-core-square-sum
 use Rattle.moves.proofs.core.distance.Reads as moves-core-distance
 use Rattle.moves.proofs.core.nearer.Reads as moves-core-nearer
+use Rattle.moves.proofs.core.onward.Reads as moves-core-onward
 use Rattle.moves.proofs.core.move_towards.Reads as moves-core-move-towards
 use Rattle.moves.proofs.core.point_of.Reads as moves-core-point-of
 use Rattle.moves.proofs.core.has_moved.Reads as moves-core-has-moved
@@ -167,6 +169,7 @@ use Rattle.steps.proofs.core.step_lifted_leg.Reads as steps-core-step-lifted-le
 use Rattle.steps.proofs.core.shift_legs.Reads as steps-core-shift-legs
 use Rattle.steps.proofs.core.course_of.Reads as steps-core-course-of
 use Rattle.steps.proofs.core.step_made.Reads as steps-core-step-made
+use Rattle.steps.proofs.core.even_made.Reads as steps-core-even-made
 use Rattle.steps.proofs.core.step_after.Reads as steps-core-step-after
 use Rattle.steps.proofs.core.timed_after.Reads as steps-core-timed-after
 use Rattle.steps.proofs.core.even_after.Reads as steps-core-even-after
@@ -405,6 +408,9 @@ settled-legs-core-feet-finite i = one-value
 pub settled-legs-core-feet-permitted : Settled (legs-core-feet-permitted.Post tt)
 settled-legs-core-feet-permitted i = one-value
 
+pub settled-legs-core-feet-in-limits : Settled (legs-core-feet-in-limits.Post tt)
+settled-legs-core-feet-in-limits i = one-value
+
 pub settled-legs-core-mask-refused : Settled (legs-core-mask-refused.Post tt)
 settled-legs-core-mask-refused i = one-value
 
@@ -505,6 +511,9 @@ settled-moves-core-distance i = one-value
 
 pub settled-moves-core-nearer : Settled (moves-core-nearer.Post tt)
 settled-moves-core-nearer i = one-value
+
+pub settled-moves-core-onward : Settled (moves-core-onward.Post tt)
+settled-moves-core-onward i = one-value
 
 pub settled-moves-core-move-towards : Settled (moves-core-move-towards.Post tt)
 settled-moves-core-move-towards i = one-value
@@ -664,6 +673,9 @@ settled-steps-core-course-of i = one-value
 
 pub settled-steps-core-step-made : Settled (steps-core-step-made.Post tt)
 settled-steps-core-step-made i = one-value
+
+pub settled-steps-core-even-made : Settled (steps-core-even-made.Post tt)
+settled-steps-core-even-made i = one-value
 
 pub settled-steps-core-step-after : Settled (steps-core-step-after.Post tt)
 settled-steps-core-step-after i = one-value

@@ -4,7 +4,8 @@ use mathlib.Core.Path.{_≡_, refl, sym, ap, _∙_, subst}
 use mathlib.Core.Logic.{_⊎_, inl, inr, ⊎-elim}
 use mathlib.Core.Bool.{Bool, true, false, true≢false}
 use Prim.Native.Nat.{ℕ, zero, suc, _+_, _*_, _/_, _^_, _≤_, _<_, zero-le}
-use native.Mathlib.Nat.{le-refl, le-trans, le-of-lt, le-of-eq, lt-of-le-of-lt, mul-le-mul, mul-le-mul-left, mul-lt-mul-of-pos-right, mul-pos}
+use native.Mathlib.Nat.{le-refl, le-trans, le-of-lt, le-of-eq, lt-of-le-of-lt, mul-le-mul, mul-le-mul-left, mul-lt-mul-of-pos-right}
+use native.Mathlib.Nat.{mul-pos}
 use native.Mathlib.Nat.{le-of-mul-le-mul-right, mul-le-mul-right, add-le-add, zero-mul}
 use native.Mathlib.Omega.{arith}
 use lib.Dec.{T, lit<, lit≤}
@@ -141,7 +142,8 @@ module _ (m : Float) (a ta b tb : Point) (aim : Aim m ta) (way : OnWay a ta) (ai
       nothing = subst (λ (k : ℕ). k < overflow binary32) (sym zero-product) (lit< tt)
         where
           zero-product : rounded (0 * part) (unity * unity) ≡ 0
-          zero-product = ap (λ (k : ℕ). rounded k (unity * unity)) (zero-mul part) ∙ grid-zero binary32 (unity * unity) (mul-pos unity-pos unity-pos)
+          zero-product = ap (λ (k : ℕ). rounded k (unity * unity)) (zero-mul part) ∙ grid-zero binary32 (unity * unity)
+              (mul-pos unity-pos unity-pos)
 
   -- what a step makes good at least, and at most
   abbrev least : ℕ

@@ -177,7 +177,8 @@ module _ (m : Float) (l t : Point) (aim : Aim m t) (way : OnWay l t) where
   distance-small = elim (le-or-lt (2 ^ 137) (mag (distance l t))) [
     | inl h ↦
         let n = near m l t aim way in
-        let s = spans-less (apart (t .x) (l .x)) (apart (t .y) (l .y)) (apart (t .z) (l .z)) (18 * unity) (18 * unity) (18 * unity) (36 * unity)
+        let s = spans-less (apart (t .x) (l .x)) (apart (t .y) (l .y)) (apart (t .z) (l .z)) (18 * unity) (18 * unity) (18 * unity)
+        (36 * unity)
         (n .0) (n .1) (n .2) (lit≤ tt) in
         le-trans (few (mag (distance l t)) unity δ (lit≤ tt) (distance-within (36 * unity) h s)) (lit≤ tt)
     | inr h ↦ le-trans (le-of-lt h) (lit≤ tt)
@@ -208,7 +209,8 @@ module _ (m : Float) (l t : Point) (aim : Aim m t) (way : OnWay l t) (far : T (n
       let w = measured m l t aim way far in
       let s = lowers m l t aim way far in
       let p = along (distance l t) m l t in
-      shrunk (apart (t .x) (l .x)) (apart (t .y) (l .y)) (apart (t .z) (l .z)) (apart (t .x) (p .x)) (apart (t .y) (p .y)) (apart (t .z) (p .z))
+      shrunk (apart (t .x) (l .x)) (apart (t .y) (l .y)) (apart (t .z) (l .z)) (apart (t .x) (p .x)) (apart (t .y) (p .y))
+      (apart (t .z) (p .z))
       P (mag m) N (w .Q) (51 * δ) (lt-of-le-of-lt zero-le (w .above)) (le-of-lt (w .above)) less (s .x .0) (s .y .0) (s .z .0)
       (room (mag m) N P (w .Q) δ many (w .above) (up-to P h) part) h
 
@@ -219,10 +221,12 @@ module _ (m : Float) (l t : Point) (aim : Aim m t) (way : OnWay l t) (far : T (n
       let w = measured m l t aim way far in
       let s = lowers m l t aim way far in
       let p = along (distance l t) m l t in
-      grown (apart (t .x) (l .x)) (apart (t .y) (l .y)) (apart (t .z) (l .z)) (apart (t .x) (p .x)) (apart (t .y) (p .y)) (apart (t .z) (p .z))
+      grown (apart (t .x) (l .x)) (apart (t .y) (l .y)) (apart (t .z) (l .z)) (apart (t .x) (p .x)) (apart (t .y) (p .y))
+      (apart (t .z) (p .z))
       P (beyond (w .Q)) (mag m) N (w .Q) (51 * δ) (lt-of-le-of-lt zero-le (w .above)) (le-of-lt (w .above)) (s .x .1) (s .y .1) (s .z .1)
       (slack (mag m) N (w .Q) δ (pow-pos 125) many (w .above) more)
-      (spans-way m l t aim way (w .Q) (le-of-eq (mag-is (distance l t) false (w .Q) (w .value))) (le-trans (aim .from) (le-of-lt (w .above)))) h
+      (spans-way m l t aim way (w .Q) (le-of-eq (mag-is (distance l t) false (w .Q) (w .value)))
+      (le-trans (aim .from) (le-of-lt (w .above)))) h
 
 -- ---- a walk: where the way spans n times N, it has arrived after n + 1 steps
 module _ (m : Float) (t : Point) (aim : Aim m t) (N : ℕ) (part : 16 * N ≤ 15 * mag m) where
@@ -236,7 +240,8 @@ module _ (m : Float) (t : Point) (aim : Aim m t) (N : ℕ) (part : 16 * N ≤ 15
   at-target k = still-there m t t 0 k zero-le (same-of-spread t t (aim .target) (aim .target) (spread-self t))
 
   -- a step from l that ends at p
-  from-next : (l p : Point) (k : ℕ) → pointOf (moveTowards l t m) ≡ p → T (same (pointAfter m p t k) t) → T (same (pointAfter m l t (suc k)) t)
+  from-next : (l p : Point) (k : ℕ) → pointOf (moveTowards l t m) ≡ p → T (same (pointAfter m p t k) t) → T
+      (same (pointAfter m l t (suc k)) t)
   from-next l p k e h =
       subst (λ (q : Point). T (same q t)) (sym (one-later l k)) (subst (λ (q : Point). T (same (pointAfter m q t k) t)) (sym e) h)
 
@@ -247,7 +252,8 @@ module _ (m : Float) (t : Point) (aim : Aim m t) (N : ℕ) (part : 16 * N ≤ 15
   enough n = omega arith
 
   -- one step, by its two tests: at its target it stays, near it is there, and far it goes along
-  by-tests : (k : ℕ) (l : Point) → (le (distance l t) m ≡ false → T (same (pointAfter m l t (suc k)) t)) → T (same (pointAfter m l t (suc k)) t)
+  by-tests : (k : ℕ) (l : Point) → (le (distance l t) m ≡ false → T (same (pointAfter m l t (suc k)) t)) → T
+      (same (pointAfter m l t (suc k)) t)
   unfolding pointAfter pointOf
   by-tests k l on = by-place (same l t) refl
     where

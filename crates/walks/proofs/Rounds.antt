@@ -52,7 +52,8 @@ module _ (m : Float) (s t : Points) where
     walking-few e = lt-of-lt-of-le (one-more e) (w .few)
 
     -- a round
-    pub walking-on : Arrived l ≡ false → (p : Points) → ((f : Leg) → point p f ≡ pointOf (moveTowards (point l f) (point t f) m)) → Walking p (c + 1)
+    pub walking-on : Arrived l ≡ false → (p : Points) → ((f : Leg) → point p f ≡ pointOf (moveTowards (point l f) (point t f) m))
+        → Walking p (c + 1)
     unfolding pointsAfter
     walking-on e p h = record {
       total = w .total;

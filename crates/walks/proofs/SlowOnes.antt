@@ -73,7 +73,8 @@ module _ (m : Float) (s t : Points) where
       no-more =
           by-place (λ l. v .counts l ≤ w .counts l)
           (λ l _ e. le-trans
-          (count-within m (point t l) (point t l) 0 (v .counts l) (subst (λ (q : Point). Walk m q (point t l) (v .counts l)) e (v .walks l)) (at-target l))
+          (count-within m (point t l) (point t l) 0 (v .counts l)
+          (subst (λ (q : Point). Walk m q (point t l) (v .counts l)) e (v .walks l)) (at-target l))
           zero-le)
           (λ l e. count-within m (point s l) (point t l) (w .counts l) (v .counts l)
           (subst (λ (q : Point). Walk m q (point t l) (v .counts l)) e (v .walks l)) (w .walks l .arrives))
@@ -84,7 +85,8 @@ module _ (m : Float) (s t : Points) where
           (subst (λ (q : Point). Walk m q (point t l) (v .counts l)) e (v .walks l) .arrives)
 
       out-of : (l : Leg) → Out l
-          → T (le (add binary32 (distance (point s l) (point t l)) m) (mul binary32 (distance (point s (lead .0)) (point t (lead .0))) share))
+          → T (le (add binary32 (distance (point s l) (point t l)) m)
+          (mul binary32 (distance (point s (lead .0)) (point t (lead .0))) share))
       out-of l e =
           subst (λ (d : Float). T (le (add binary32 (distance (point s l) (point t l)) m) (mul binary32 d share))) (lead .1) e
 
@@ -113,4 +115,5 @@ module _ (m : Float) (s t : Points) where
           subst (WalkFeet m s t)
           (le-antisymm
           (le-trans (le-of-eq (w .most ∙ o .1)) (le-trans (no-fewer (o .0)) (le-of-eq (sym (v .most)))))
-          (le-trans (le-of-eq (v .most ∙ i .1)) (le-trans (no-more (i .0)) (le-trans (none-larger (w .counts) (i .0)) (le-of-eq (sym (w .most))))))) w
+          (le-trans (le-of-eq (v .most ∙ i .1))
+          (le-trans (no-more (i .0)) (le-trans (none-larger (w .counts) (i .0)) (le-of-eq (sym (w .most))))))) w

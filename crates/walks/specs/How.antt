@@ -28,7 +28,8 @@ stride up p t m =
 unfoldable pub strides : Feet → Points → Float → Feet
 strides f t m = feet (λ l. stride (lifted f l) (foot f l) (point t l) m)
 
--- Of six feet only the slow ones are walked. A foot may be left out, at its target from the start, where its distance and one max move more come
+-- Of six feet only the slow ones are walked. A foot may be left out, at its target from the start, where its distance and one max move
+-- more come
 -- to at most 27/32 of the longest distance: it has arrived before the slowest has (proofs/Outlasted).
 abbrev pub share : Float
 share = ofBits binary32 1062731776

@@ -56,48 +56,18 @@ fn stride(lifted: bool, last: Point, target: Point, max_move: f32) -> Foot
     legs::core::foot_at(target, false)
 }
 
-// One step of each foot.
-fn strides(last: Feet, target: Points, max_move: f32) -> Feet
-    ensures { λ r. ⌜ r ≡ strides last target «max_move» ⌝ }
+// One step of each foot towards its target t, by at most the max move m.
+fn strides(last: Feet, t: Points, m: f32) -> Feet
+    ensures { λ r. ⌜ r ≡ strides last t m ⌝ }
 {
-    let points = legs::core::points_of(last);
+    let p = legs::core::points_of(last);
     Feet {
-        left_front: stride(
-            last.left_front.lifted,
-            points.left_front,
-            target.left_front,
-            max_move,
-        ),
-        left_middle: stride(
-            last.left_middle.lifted,
-            points.left_middle,
-            target.left_middle,
-            max_move,
-        ),
-        left_rear: stride(
-            last.left_rear.lifted,
-            points.left_rear,
-            target.left_rear,
-            max_move,
-        ),
-        right_front: stride(
-            last.right_front.lifted,
-            points.right_front,
-            target.right_front,
-            max_move,
-        ),
-        right_middle: stride(
-            last.right_middle.lifted,
-            points.right_middle,
-            target.right_middle,
-            max_move,
-        ),
-        right_rear: stride(
-            last.right_rear.lifted,
-            points.right_rear,
-            target.right_rear,
-            max_move,
-        ),
+        left_front: stride(last.left_front.lifted, p.left_front, t.left_front, m),
+        left_middle: stride(last.left_middle.lifted, p.left_middle, t.left_middle, m),
+        left_rear: stride(last.left_rear.lifted, p.left_rear, t.left_rear, m),
+        right_front: stride(last.right_front.lifted, p.right_front, t.right_front, m),
+        right_middle: stride(last.right_middle.lifted, p.right_middle, t.right_middle, m),
+        right_rear: stride(last.right_rear.lifted, p.right_rear, t.right_rear, m),
     }
 }
 

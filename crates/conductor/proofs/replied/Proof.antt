@@ -37,7 +37,8 @@ returns : tie.Need-returns
 returns c =
     let asked = c .before .before .before .before in
     let feet = c .before .before .feet .given in
-    step-says (state asked) (elapsed asked) (within asked) (asked .made .result) (makes asked) (feet .0 .0) _ (feet .1) (c .stepped .ensures)
+    step-says (state asked) (elapsed asked) (within asked) (asked .made .result) (makes asked) (feet .0 .0) _ (feet .1)
+    (c .stepped .ensures)
 
 returns-2 : tie.Need-returns-2
 returns-2 c =

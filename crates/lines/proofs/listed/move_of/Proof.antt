@@ -48,7 +48,8 @@ moved-to-requires c κs = (
   omega arith,
   fields-good (c .before .before .before .before .before .before .before .before .before .before .args .s .now)
       (c .before .before .before .before .before .before .before .before .before .before .args .limit)
-      (c .before .before .before .before .before .before .before .before .if1 .left) _ (c .before .before .before .before .before .before .count .ensures) _
+      (c .before .before .before .before .before .before .before .before .if1 .left) _
+      (c .before .before .before .before .before .before .count .ensures) _
       (c .before .before .three-tabbed .ensures) (c .before .if2 .taken),
 )
 
@@ -57,13 +58,15 @@ returns-2 c =
     ap (λ (m : Moved). Known (Move m)) (c .moved-to .ensures)
     ∙ move-yes (c .before .before .before .before .before .before .before .before .before .before .before .args .s .now)
     (c .before .before .before .before .before .before .before .before .before .before .before .args .limit)
-    (c .before .before .before .before .before .before .before .before .before .if1 .left) _ (c .before .before .before .before .before .before .before .count .ensures) _
+    (c .before .before .before .before .before .before .before .before .before .if1 .left) _
+    (c .before .before .before .before .before .before .before .count .ensures) _
     (c .before .before .before .three-tabbed .ensures) (c .before .before .if2 .taken)
 
 returns-3 : tie.Need-returns-3
 returns-3 c =
     move-no (c .before .before .before .before .before .before .before .before .before .args .s .now)
-    (c .before .before .before .before .before .before .before .before .before .args .limit) (c .before .before .before .before .before .before .before .if1 .left) _
+    (c .before .before .before .before .before .before .before .before .before .args .limit)
+    (c .before .before .before .before .before .before .before .if1 .left) _
     (c .before .before .before .before .before .count .ensures) _ (c .before .three-tabbed .ensures) (c .if2 .left)
 
 pub move-of-spec : {M : Type 1} → statement M

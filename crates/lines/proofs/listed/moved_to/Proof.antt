@@ -17,7 +17,8 @@ add-bits-at : tie.Need-add-bits-at
 add-bits-at c = search needs
 
 bits-at-requires-2 : tie.Need-bits-at-requires-2
-bits-at-requires-2 c κs = (omega arith, three-good (c .before .before .args .s .now) (c .before .before .args .at) (c .before .before .pre .1) .1 .0)
+bits-at-requires-2 c κs =
+    (omega arith, three-good (c .before .before .args .s .now) (c .before .before .args .at) (c .before .before .pre .1) .1 .0)
 
 add-bits-at-2 : tie.Need-add-bits-at-2
 add-bits-at-2 c = search needs
@@ -26,7 +27,11 @@ add-bits-at-3 : tie.Need-add-bits-at-3
 add-bits-at-3 c = search needs
 
 bits-at-requires-3 : tie.Need-bits-at-requires-3
-bits-at-requires-3 c κs = (omega arith, three-good (c .before .before .before .args .s .now) (c .before .before .before .args .at) (c .before .before .before .pre .1) .1 .1 .0)
+bits-at-requires-3 c κs = (
+  omega arith,
+  three-good (c .before .before .before .args .s .now) (c .before .before .before .args .at)
+      (c .before .before .before .pre .1) .1 .1 .0,
+)
 
 returns : tie.Need-returns
 unfolding bitsOf

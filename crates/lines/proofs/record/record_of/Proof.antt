@@ -27,7 +27,8 @@ walk-in-requires c κs = (c .before .before .before .before .if1 .left, sym (c .
 returns-3 : tie.Need-returns-3
 returns-3 c =
     ap Record (c .walk-in .ensures)
-    ∙ record-yes (c .before .before .before .before .before .before .before .args .s .now) (c .before .before .before .before .before .if1 .left)
+    ∙ record-yes (c .before .before .before .before .before .before .before .args .s .now)
+    (c .before .before .before .before .before .if1 .left)
     (c .before .before .before .if2 .left) (sym (c .before .before .seven-tabbed .ensures) ∙ c .before .if3 .taken)
 
 returns-4 : tie.Need-returns-4

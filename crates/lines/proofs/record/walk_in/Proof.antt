@@ -20,16 +20,29 @@ bits-at-requires-3 : tie.Need-bits-at-requires-3
 bits-at-requires-3 c κs = (omega arith, seven-good (c .before .before .before .args .s .now) (c .before .before .before .pre .1) .1 .1 .0)
 
 bits-at-requires-4 : tie.Need-bits-at-requires-4
-bits-at-requires-4 c κs = (omega arith, seven-good (c .before .before .before .before .args .s .now) (c .before .before .before .before .pre .1) .1 .1 .1 .0)
+bits-at-requires-4 c κs =
+    (omega arith, seven-good (c .before .before .before .before .args .s .now) (c .before .before .before .before .pre .1) .1 .1 .1 .0)
 
 bits-at-requires-5 : tie.Need-bits-at-requires-5
-bits-at-requires-5 c κs = (omega arith, seven-good (c .before .before .before .before .before .args .s .now) (c .before .before .before .before .before .pre .1) .1 .1 .1 .1 .0)
+bits-at-requires-5 c κs = (
+  omega arith,
+  seven-good (c .before .before .before .before .before .args .s .now)
+      (c .before .before .before .before .before .pre .1) .1 .1 .1 .1 .0,
+)
 
 bits-at-requires-6 : tie.Need-bits-at-requires-6
-bits-at-requires-6 c κs = (omega arith, seven-good (c .before .before .before .before .before .before .args .s .now) (c .before .before .before .before .before .before .pre .1) .1 .1 .1 .1 .1 .0)
+bits-at-requires-6 c κs = (
+  omega arith,
+  seven-good (c .before .before .before .before .before .before .args .s .now)
+      (c .before .before .before .before .before .before .pre .1) .1 .1 .1 .1 .1 .0,
+)
 
 bits-at-requires-7 : tie.Need-bits-at-requires-7
-bits-at-requires-7 c κs = (omega arith, seven-good (c .before .before .before .before .before .before .before .args .s .now) (c .before .before .before .before .before .before .before .pre .1) .1 .1 .1 .1 .1 .1 .0)
+bits-at-requires-7 c κs = (
+  omega arith,
+  seven-good (c .before .before .before .before .before .before .before .args .s .now)
+      (c .before .before .before .before .before .before .before .pre .1) .1 .1 .1 .1 .1 .1 .0,
+)
 
 walk-of-requires : tie.Need-walk-of-requires
 walk-of-requires c κs = search needs
@@ -46,7 +59,8 @@ returns c =
       c .before .before .before .bits-at5 .ensures,
       c .before .before .bits-at6 .ensures,
       c .before .bits-at7 .ensures,
-    ) (sym (ap (λ (fs : List Field). walkOf (bitsOf fs)) (fields-seven (c .before .before .before .before .before .before .before .before .before .args .s .now)))))
+    ) (sym (ap (λ (fs : List Field). walkOf (bitsOf fs))
+    (fields-seven (c .before .before .before .before .before .before .before .before .before .args .s .now)))))
 
 pub walk-in-spec : {M : Type 1} → statement M
 walk-in-spec =
