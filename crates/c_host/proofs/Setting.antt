@@ -6,13 +6,19 @@ use Prim.Native.Nat.{ℕ}
 use lib.Dec.{eqb, leb}
 use lib.ListN.{length}
 use Rattle.numbers.proofs.Flags.{where-true, where-false}
+use Rattle.numbers.proofs.OnePass.{and-left}
+use Rattle.commands.specs.Command.{permittedCommand}
 use Rattle.commands.specs.declared.MoveCommand.{MoveCommand}
 use Rattle.joints.specs.Inverse.{ikRefusal}
 use Rattle.joints.proofs.Told.{ik-door}
-use Rattle.conductor.specs.States.{finiteState, stoodState, underCommand, newCommandRefusal}
+use Rattle.conductor.specs.States.{finiteState, permittedState, stoodState, underCommand, newCommandRefusal}
 use Rattle.conductor.proofs.Door.{state-finite}
-use Rattle.conductor.proofs.Setting.{stood-permitted, commanded-permitted}
+use Rattle.conductor.proofs.Setting.{stood-permitted, both-permitted, commanded-permitted}
+use Rattle.packed.proofs.Back.{AllBytes}
 use Rattle.state_row.specs.Layout.{isState, stateOf, stateBytes, standingOf, configurationOf}
+use Rattle.state_row.specs.How.{commandPut}
+use Rattle.state_row.proofs.Back.{row-written-again}
+use Rattle.state_row.proofs.Parts.{command-put}
 use Rattle.c_host.specs.Rows.{standRefusal, standRow, commandRowRefusal, commandRow}
 
 -- ---- a fresh state
@@ -100,11 +106,19 @@ module _ (l : List ℕ) (c : MoveCommand) (flag : ℕ) where
     pub refused-command : (n : ℕ) → n ≡ newCommandRefusal (stateOf l) c → eqb n 0 ≡ false → Commands n l
     refused-command n e = remains n (e ∙ by-command p q)
 
-    pub commanded : 0 ≡ newCommandRefusal (stateOf l) c → (l' : List ℕ) → l' ≡ stateBytes (underCommand (stateOf l) c) → Commands 0 l'
+    -- the row is the bytes of its state, so that a command that is stored in it makes it the bytes of the state under that command
+    pub commanded : AllBytes l → 0 ≡ newCommandRefusal (stateOf l) c → (l' : List ℕ) → l' ≡ commandPut l c → Commands 0 l'
     unfolding commandRow
-    commanded e l' s =
+    commanded small e l' s =
         let none = e ∙ by-command p q in
-        (none, s ∙ where-true (eqb (commandRowRefusal l c flag) 0) _ l (ap (λ (m : ℕ). eqb m 0) (sym none)))
+        let before = stateOf l in
+        let finite = state-finite before (and-left (permittedState before) (permittedCommand c) (both-permitted before c (sym e))) in (
+          none,
+          s
+              ∙ ap (λ (m : List ℕ). commandPut m c) (sym (row-written-again l small p finite))
+              ∙ command-put before c
+              ∙ where-true (eqb (commandRowRefusal l c flag) 0) _ l (ap (λ (m : ℕ). eqb m 0) (sym none)),
+        )
 
   pub commanded-finite : 0 ≡ newCommandRefusal (stateOf l) c → finiteState (underCommand (stateOf l) c) ≡ true
   commanded-finite e = state-finite (underCommand (stateOf l) c) (commanded-permitted (stateOf l) c (sym e))

@@ -78,7 +78,7 @@ pub extern "C" fn hopper_command(
     if number != 0 {
         return number;
     }
-    state_row::put_state(state, conductor::commanded(before, command));
+    state_row::put_new_command(state, command);
     0
 }
 

@@ -27,7 +27,7 @@ stood-permitted f c p q =
     (record { first = p; second = p; third = p; fourth = p; fifth = default-permitted; sixth = q })
 
 module _ (s : State) (c : MoveCommand) (none : newCommandRefusal s c ≡ 0) where
-  both-permitted : (permittedState s && permittedCommand c) ≡ true
+  pub both-permitted : (permittedState s && permittedCommand c) ≡ true
   unfolding newCommandRefusal
   both-permitted =
       is-true (permittedState s && permittedCommand c)

@@ -5,12 +5,13 @@ use mathlib.Core.List.{List}
 use Prim.Native.Nat.{ℕ}
 use Rattle.legs.specs.Legs.{points}
 use Rattle.legs.specs.declared.Feet.{Feet}
+use Rattle.commands.specs.declared.MoveCommand.{MoveCommand}
 use Rattle.commands.specs.declared.Tripod.{Tripod}
 use Rattle.packed.specs.Packed.{feetIn}
-use Rattle.conductor.specs.States.{withLast}
+use Rattle.conductor.specs.States.{withLast, underCommand}
 use Rattle.conductor.specs.declared.State.{State}
 use Rattle.state_row.specs.Layout.{stateBytes}
-use Rattle.state_row.specs.How.{pointsIn, lastPut, planPut}
+use Rattle.state_row.specs.How.{pointsIn, lastPut, planPut, commandPut}
 
 pub points-alike : (l : List ℕ) (marks at : ℕ) → pointsIn l at ≡ points (feetIn l marks at)
 unfolding pointsIn feetIn
@@ -36,3 +37,7 @@ setOut s target t =
 pub plan-put : (s : State) (target : Feet) (t : Tripod) → planPut (stateBytes s) (s .last) target t ≡ stateBytes (setOut s target t)
 unfolding stateBytes
 plan-put s target t = refl
+
+pub command-put : (s : State) (c : MoveCommand) → commandPut (stateBytes s) c ≡ stateBytes (underCommand s c)
+unfolding stateBytes
+command-put s c = refl

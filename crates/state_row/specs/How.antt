@@ -2,12 +2,15 @@
 use Prim.Native.Nat.{ℕ, _+_}
 use mathlib.Core.List.{List, [], _∷_}
 use lib.Seq.{sets}
+use Rattle.numbers.specs.Told.{mark}
 use Rattle.legs.specs.Answers.{lifts}
 use Rattle.legs.specs.declared.Points.{Points}
 use Rattle.legs.specs.declared.Feet.{Feet}
-use Rattle.commands.specs.Answers.{tripodMark}
+use Rattle.commands.specs.Answers.{tripodMark, commandValues}
+use Rattle.commands.specs.declared.MoveCommand.{MoveCommand}
 use Rattle.commands.specs.declared.Tripod.{Tripod}
 use Rattle.packed.specs.Packed.{pointAt, pointsBytes}
+use Rattle.state_row.specs.Layout.{floatsBytes, timeBytes}
 
 -- six points of 72 bytes, in row order
 unfoldable pub pointsIn : List ℕ → ℕ → Points
@@ -21,7 +24,7 @@ pointsIn l at =
       «right_rear» = pointAt l (at + 60);
     }
 
--- the last feet; a start, a target and the lifted tripod
+-- the last feet; a start, a target and the lifted tripod; a command
 abbrev pub lastPut : List ℕ → Feet → List ℕ
 lastPut l f = sets (sets l 72 (pointsBytes f)) 486 (lifts f)
 
@@ -29,3 +32,8 @@ abbrev pub planPut : List ℕ → Feet → Feet → Tripod → List ℕ
 planPut l start target lifted =
     sets (sets (sets (sets (sets l 0 (pointsBytes start)) 144 (pointsBytes target)) 480 (lifts start)) 492 (lifts target)) 504
     (tripodMark lifted ∷ [])
+
+abbrev pub commandPut : List ℕ → MoveCommand → List ℕ
+commandPut l c =
+    sets (sets (sets l 288 (floatsBytes (commandValues c))) 468 (timeBytes (c .«step_time»))) 505
+    (mark (c .«aggressive_leg_lift») ∷ [])

@@ -28,7 +28,7 @@ ghost use Rattle.conductor.specs.States.{finiteState};
 ghost use Rattle.state_row.specs.Layout.{bodyValues, legValues, configurationValues, pointValues, floatsBytes, timeBytes};
 ghost use Rattle.state_row.specs.Layout.{stateBytes, jointBytes, legOf, bodyOf, configurationOf, flag, tripodOf, commandOf, stateOf};
 ghost use Rattle.state_row.specs.Layout.{flags, isState, standingOf};
-ghost use Rattle.state_row.specs.How.{pointsIn, lastPut, planPut};
+ghost use Rattle.state_row.specs.How.{pointsIn, lastPut, planPut, commandPut};
 
 // Whether a byte is a flag.
 fn is_flag(b: u8) -> bool
@@ -303,6 +303,16 @@ pub fn put_plan(s: &mut [u8], start: Feet, target: Feet, lifted: Tripod)
     packed::put_marks(s, 480, start);
     packed::put_marks(s, 492, target);
     put_flag(s, 504, is_rlr(lifted));
+}
+
+// The command of a row becomes this one, and all else stays.
+pub fn put_new_command(s: &mut [u8], command: MoveCommand)
+    requires { ⌜ (length (now s) ≡ 506) × (finiteCommand command ≡ true) ⌝ }
+    ensures { λ _. ⌜ now (s .exit) ≡ commandPut (now (s .entry)) command ⌝ }
+{
+    put_command(s, command);
+    put_time(s, command.step_time);
+    put_flag(s, 505, command.aggressive_leg_lift);
 }
 
 // Whether the second tripod is lifted.

@@ -8,10 +8,12 @@ use lib.Dec.{leb}
 use borrow.Author.Tests.{ne-eqb, le-leb, lt-leb}
 use Rattle.numbers.proofs.Flags.{not-true, not-false}
 use Rattle.commands.specs.declared.MoveCommand.{MoveCommand}
-use Rattle.conductor.specs.States.{finiteState, underCommand, newCommandRefusal}
+use Rattle.conductor.specs.States.{underCommand, newCommandRefusal}
 use Rattle.conductor.specs.declared.State.{State}
-use Rattle.state_row.specs.Layout.{isState, stateOf, stateBytes}
+use Rattle.state_row.specs.Layout.{isState, stateOf}
+use Rattle.packed.proofs.Back.{AllBytes}
 use Rattle.state_row.proofs.Back.{state-row-length}
+use Rattle.state_row.proofs.Finite.{of-state}
 use Rattle.c_host.specs.Rows.{asked}
 use Rattle.c_host.proofs.Setting.{no-state-row, no-flag, refused-command, commanded, commanded-finite}
 use borrow.Author.Needs.{needs}
@@ -65,30 +67,27 @@ returns-3 c =
     refused-command (row (start seen)) (wanted (start seen)) (start seen .args .aggressive) (is-row seen) (is-flag seen) _ (number seen)
     (ne-eqb _ 0 (c .if3 .taken))
 
-under : (c : tie.After-commanded)
-    → let came = start (c .before .before .before) in c .commanded .result ≡ underCommand (stateOf (row came)) (wanted came)
-under c =
-    let seen = c .before .before .before in
-    c .commanded .ensures ∙ ap (λ (s : State). underCommand s (wanted (start seen))) (seen .before .state-at .ensures)
+-- the row is of bytes
+small : (c : tie.After-command-refused) → AllBytes (row (start c))
+small c i = c .before .before .before .before .before .before .before .slice-known .given i .fits
 
-put-state-requires : tie.Need-put-state-requires
-put-state-requires c κs =
-    let seen = c .before .before .before in
-    let came = start seen in (
+put-new-command-requires : tie.Need-put-new-command-requires
+put-new-command-requires c κs =
+    let seen = c .before .before in
+    let came = start seen in
+    let none = sym (c .before .if3 .left) ∙ number seen in (
       state-row-length (row came) (is-row seen),
-      ap finiteState (under c)
-          ∙ commanded-finite (row came) (wanted came) (came .args .aggressive) (sym (c .before .before .if3 .left) ∙ number seen),
+      of-state (underCommand (stateOf (row came)) (wanted came)) (commanded-finite (row came) (wanted came) (came .args .aggressive) none) .4,
     )
 
 returns-4 : tie.Need-returns-4
 returns-4 c =
     let stored = c .before .before in
-    let made = stored .before in
-    let seen = made .before .before .before in
+    let left = stored .before .before in
+    let seen = left .before in
     let came = start seen in
-    commanded (row came) (wanted came) (came .args .aggressive) (is-row seen) (is-flag seen)
-    (sym (made .before .before .if3 .left) ∙ number seen) _
-    (stored .put-state .ensures ∙ ap stateBytes (under made))
+    commanded (row came) (wanted came) (came .args .aggressive) (is-row seen) (is-flag seen) (small seen)
+    (sym (left .if3 .left) ∙ number seen) _ (stored .put-new-command .ensures)
 
 pub hopper-command-spec : {M : Type 1} → statement M
 hopper-command-spec =
@@ -103,7 +102,6 @@ hopper-command-spec =
     (λ c κs. search needs)
     (λ c. search needs)
     returns-3
-    (λ c κs. search needs)
-    put-state-requires
+    put-new-command-requires
     (λ c. search needs)
     returns-4)
