@@ -77,7 +77,8 @@ put-new-command-requires c κs =
     let came = start seen in
     let none = sym (c .before .if3 .left) ∙ number seen in (
       state-row-length (row came) (is-row seen),
-      of-state (underCommand (stateOf (row came)) (wanted came)) (commanded-finite (row came) (wanted came) (came .args .aggressive) none) .4,
+      of-state (underCommand (stateOf (row came)) (wanted came))
+          (commanded-finite (row came) (wanted came) (came .args .aggressive) none) .4,
     )
 
 returns-4 : tie.Need-returns-4
