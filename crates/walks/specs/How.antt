@@ -29,8 +29,7 @@ unfoldable pub strides : Feet → Points → Float → Feet
 strides f t m = feet (λ l. stride (lifted f l) (foot f l) (point t l) m)
 
 -- Of six feet only the slow ones are walked. A foot may be left out, at its target from the start, where its distance and one max move
--- more come
--- to at most 27/32 of the longest distance: it has arrived before the slowest has (proofs/Outlasted).
+-- more come to at most 27/32 of the longest distance: it arrives no later than the farthest (proofs/Outlasted).
 abbrev pub share : Float
 share = ofBits binary32 1062731776
 
