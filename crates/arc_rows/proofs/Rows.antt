@@ -76,7 +76,8 @@ module _ (a b w : ℕ) (hw : w ≤ 8392832) (s s' c c' : List ℕ) (t : T (ahead
       (both_l b2 (both b3 b4) t2) w hw in
       let q3 = poly_le (add_p (0 ∷ 2 ^ 31 * b ∷ a ∷ []) (big c)) (add_p ((2 ^ 61 * a + 2 ^ 68 * D) ∷ []) (big c')) 8392832
       (both_l b3 b4 t3) w hw in
-      let q4 = poly_le (add_p (2 ^ 61 * a ∷ []) (big c')) (add_p (2 ^ 62 * D ∷ 2 ^ 31 * b ∷ a ∷ []) (big c)) 8392832 (both_r b3 b4 t3) w hw in
+      let q4 = poly_le (add_p (2 ^ 61 * a ∷ []) (big c')) (add_p (2 ^ 62 * D ∷ 2 ^ 31 * b ∷ a ∷ []) (big c)) 8392832 (both_r b3 b4 t3) w hw
+      in
       record {
         sin_low = one (eval s w) (eval s' w) D (le_by (line (2 ^ 61 * b) (2 ^ 31 * a) s' w) (square (2 ^ 68 * D) 0 b s w) q1);
         sin_high = two (eval s w) (eval s' w) D (le_by (square 0 0 b s w) (line (2 ^ 61 * b + 2 ^ 62 * D) (2 ^ 31 * a) s' w) q2);

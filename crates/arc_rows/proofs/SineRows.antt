@@ -157,7 +157,8 @@ module _ (k : ℕ) (h : k < 91) where
   row_before x hx =
       le_by (straight (147573952589676412928 * a_of t) (68719476736 * o) (2 * (unit * b_of t) + 133 * (unit * D)) B C x)
       (squared (b_of t) 0 (16777216 * k * (unit * D) + 61572651155456 * (147573952589676412928 * a_of t)) (64 * (unit * D)) B C x)
-      (parts_le 65536 4 0 (before_p o B C (a_of t) (b_of t)) (before_q k B C (a_of t) (b_of t)) (both_r onward backward two_fits) x (omega arith)
+      (parts_le 65536 4 0 (before_p o B C (a_of t) (b_of t)) (before_q k B C (a_of t) (b_of t)) (both_r onward backward two_fits) x
+      (omega arith)
       (omega arith))
 
   pub row_sized : (base k + early k ≡ angle_at k) × (angle_at k ≤ 838000000) × (slope_at k ≤ 11800000) × (bend_at k ≤ 65535)

@@ -69,4 +69,5 @@ good_sine k = sine (a_of (base k)) (b_of (base k)) (early k) k
 
 unfoldable pub sized_sine : ℕ → Bool
 unfolding angle_at slope_at bend_at
-sized_sine k = both (leb (early k) (angle_at k)) (both (leb (angle_at k) 838000000) (both (leb (slope_at k) 11800000) (leb (bend_at k) 65535)))
+sized_sine k =
+    both (leb (early k) (angle_at k)) (both (leb (angle_at k) 838000000) (both (leb (slope_at k) 11800000) (leb (bend_at k) 65535)))

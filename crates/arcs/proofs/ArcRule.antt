@@ -154,7 +154,8 @@ module _ (e : Fraction) (E : ℕ) (e_is : e ≋ E ÷ G) (e_pos : 0 < e.over) (q 
       let l : a ⊕ e ≋ difference (n + E) 0 G = plus_at a e n E a_is e_is in
       let g : n + E < 3373259520 =
       plain (n + E) (lt_same (a ⊕ e) (difference (n + E) 0 G) P P G_pos (lit< {m = 0} {n = 2 ^ 22} tt) l refl h) in
-      le_same (cosine_at (n + E) 0) (C (a ⊕ e)) q' q D_pos q_pos (same_sym (C (a ⊕ e)) (cosine_at (n + E) 0) (C_at (a ⊕ e) (n + E) 0 l)) q_is
+      le_same (cosine_at (n + E) 0) (C (a ⊕ e)) q' q D_pos q_pos (same_sym (C (a ⊕ e)) (cosine_at (n + E) 0) (C_at (a ⊕ e) (n + E) 0 l))
+      q_is
       (subst (λ (c : Fraction). c ≼ q') (sym (cosine_pos (n + E) 0 (n + E) (add-zero (n + E)))) (s.high g))
     where
       plain : (m : ℕ) → m * 4194304 + 0 * 1073741824 < 13176795 * 1073741824 + 0 * 4194304 → m < 3373259520

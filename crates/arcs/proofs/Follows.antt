@@ -9,7 +9,8 @@ use native.Mathlib.Omega.{arith}
 use Rattle.series.proofs.Order.{here_or_on}
 use Rattle.series.proofs.Grid.{sp, sm, D}
 use Rattle.arc_rows.specs.ArcSine.{angle_at, slope_at, bend_at}
-use Rattle.arc_rows.proofs.SineRows.{at, cosine_of, sine_of, sine_ahead, row_past, row_before, row_sized, first_row, first_cosine, first_sine}
+use Rattle.arc_rows.proofs.SineRows.{at, cosine_of, sine_of, sine_ahead, row_past, row_before, row_sized, first_row, first_cosine}
+use Rattle.arc_rows.proofs.SineRows.{first_sine}
 use Rattle.arc_rows.proofs.SineRows.{unit_is, unit_pos}
 use Rattle.arc_rows.proofs.SineTests.{unit, early, base}
 use Rattle.arcs.specs.How.{table_row, arc_sine}

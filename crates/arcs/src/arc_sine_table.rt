@@ -2,7 +2,7 @@
 ghost use Rattle.std.specs.Prelude.{◌≡◌, ◌<◌};
 ghost use Rattle.arc_rows.specs.ArcSine.{angle_at, slope_at, bend_at};
 
-#[derive(Drop)]
+#[derive(Clone, Copy)]
 pub struct Row(pub u32, pub u32, pub u16);
 
 // For k from 0 to 90: the arc sine at k / 128 in units of 2^-30, how fast it grows there in units of

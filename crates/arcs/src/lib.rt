@@ -2,6 +2,8 @@
 // numbers of at most 64 bits, a table of 129 angles and two terms of a series for the rest. Arc
 // cosine is the angle of (q, root of 1 - q²), and for q up to 45/64 a quarter turn less an arc sine
 // by a table of its own, without root and division.
+#![tactic(auto)]
+
 ghost use Rattle.std.specs.Prelude.{◌≡◌};
 ghost use Rattle.std.specs.Prelude.{Float};
 ghost use Rattle.numbers.specs.Answers.{told};
@@ -14,9 +16,9 @@ use numbers::{Answer, door, limits};
 mod angle;
 mod arc_sine;
 mod arc_sine_table;
-pub mod unchecked;
 mod digits;
 mod table;
+pub mod unchecked;
 
 // Why (y, x) is turned away: 1 if either is a NaN or an infinity, 2 if either is outside -128 to 128.
 fn atan2_refused(y: f32, x: f32) -> u32

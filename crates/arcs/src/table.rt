@@ -4,7 +4,7 @@ ghost use Rattle.std.specs.Prelude.{◌≡◌, ◌<◌, ◌≤◌};
 ghost use Rattle.arc_rows.specs.ArcTangent.{arc_tangent};
 ghost use Rattle.arcs.specs.How.{lean};
 
-#[derive(Drop)]
+#[derive(Clone, Copy)]
 pub struct Row(pub u32, pub u32);
 
 // For k from 0 to 128: 2^30 times the angle of the direction (128, k), to the nearest whole number,

@@ -1,13 +1,13 @@
 -- Request K10's example, by computing: six feet stand around the origin, 1/8 m below it, LRL lifted; direction x 1/16 m, a step of 1 s,
 -- 1/32 m high. A standing state plans; half a step later the feet of RLR are half way and up; at 1 s all are at their targets; then LRL is
 -- planned; with no direction it rests. Whatever the crawler is built like.
-use Rattle.std.specs.Prelude.{◌≡◌, ℕ, ◌^◌, Bool, false, List, [], ◌∷◌}
+use Rattle.std.specs.Prelude.{◌≡◌, ℕ, false, List, [], ◌∷◌}
 use mathlib.Core.Path.{refl, ap}
 use lib.Ieee.{Float, binary32, of_bits, round, neg, add, sub, mul, div, lt, le, eq}
 use Rattle.numbers.specs.Limits.{over, minus}
 use Rattle.numbers.specs.Finite.{magnitude}
 use Rattle.legs.specs.Legs.{Leg, left_front, right_front, left_middle, right_middle, left_rear, right_rear}
-use Rattle.legs.specs.Legs.{points, foot, marked}
+use Rattle.legs.specs.Legs.{foot, marked}
 use Rattle.legs.specs.Answers.{lifts}
 use Rattle.legs.specs.declared.Point.{Point}
 use Rattle.legs.specs.declared.Points.{Points}
@@ -101,7 +101,8 @@ module _ (c : Configuration) where
       × ((planned_state (state c around around LRL 0x3d80_0000)).lifted ≡ RLR)
       × ((planned_state (state c around around LRL 0x3d80_0000)).start ≡ standing around)
       × ((planned_state (state c around around LRL 0x3d80_0000)).last ≡ standing around)
-  unfolding moved next_even even_at even_progress shift_legs stepped mark_after step_lifted_leg same has_moved point_of should_move epsilon magnitude
+  unfolding moved next_even even_at even_progress shift_legs stepped mark_after step_lifted_leg same has_moved point_of should_move epsilon
+      magnitude
       whole_number in_seconds over minus nought one half half_turn round of_bits neg add sub mul div lt le eq
   stands_then_plans = (refl, refl, refl, refl)
 
@@ -147,11 +148,13 @@ module _ (c : Configuration) where
       (moved (state c target target RLR 0x3d80_0000) one_second ≡ onward planned (planned_state (state c target target RLR 0x3d80_0000)))
       × ((planned_state (state c target target RLR 0x3d80_0000)).lifted ≡ LRL)
       × ((planned_state (state c target target RLR 0x3d80_0000)).start ≡ standing target)
-  unfolding moved next_even even_at even_progress shift_legs stepped mark_after step_lifted_leg same has_moved point_of should_move epsilon magnitude
+  unfolding moved next_even even_at even_progress shift_legs stepped mark_after step_lifted_leg same has_moved point_of should_move epsilon
+      magnitude
       whole_number in_seconds over minus nought one half half_turn round of_bits neg add sub mul div lt le eq
   then_plans = (refl, refl, refl)
 
   pub or_rests : moved (state c target target RLR 0) one_second ≡ onward rests (state c target target RLR 0)
-  unfolding moved next_even even_at even_progress shift_legs stepped mark_after step_lifted_leg same has_moved point_of should_move epsilon magnitude
+  unfolding moved next_even even_at even_progress shift_legs stepped mark_after step_lifted_leg same has_moved point_of should_move epsilon
+      magnitude
       whole_number in_seconds over minus nought one half half_turn round of_bits neg add sub mul div lt le eq
   or_rests = refl

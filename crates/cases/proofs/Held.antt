@@ -53,7 +53,8 @@ module _ (a b : Feet) (p : permitted_feet foot_limit a ≡ true) (q : permitted_
 pub all_hold : Hold cases
 unfolding move_told move_refusal move_towards step_at same nearer along component distance square_sum square_root walk_refusal
     merge_told merge_refusal merged update_told update_refusal updated every_point ones finite_point permitted_point finite
-    timed_progress_told even_progress_told timed_progress even_progress progress_refusal elapsed_permitted period_permitted whole_number in_seconds
+    timed_progress_told even_progress_told timed_progress even_progress progress_refusal elapsed_permitted period_permitted whole_number
+    in_seconds
     next_even_told next_even even_at lift_refusal shift_legs stepped mark_after step_lifted_leg has_moved point_of one half half_turn
     foot_limit max_move direction walk_foot walk_move over minus round of_bits add sub mul div le eq
 all_hold =

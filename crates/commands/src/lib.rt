@@ -1,5 +1,7 @@
 // Move commands, the two tripods, and times (source 000).
 // Lengths are metres, angles radians, times seconds and nanoseconds.
+#![tactic(auto)]
+
 ghost use Rattle.std.specs.Prelude.{◌≡◌};
 ghost use Rattle.commands.specs.Answers.{told, told_should, told_tripod};
 ghost use Rattle.commands.specs.Command.{default_step_time, default_step_height, default_step_distance, default_command};
@@ -11,14 +13,14 @@ use numbers::door;
 pub mod unchecked;
 
 // Whole seconds, and nanoseconds below 10^9.
-#[derive(Drop)]
+#[derive(Clone, Copy)]
 pub struct Time {
     pub seconds: u64,
     pub nanoseconds: u32,
 }
 
 // What the driver asks for.
-#[derive(Drop)]
+#[derive(Clone, Copy)]
 pub struct MoveCommand {
     pub direction_x: f32,
     pub direction_y: f32,
@@ -29,14 +31,14 @@ pub struct MoveCommand {
 }
 
 // What a constructor answers: the command, or why not.
-#[derive(Drop)]
+#[derive(Clone, Copy)]
 pub enum Commanded {
     Command(MoveCommand),
     Refused(u32),
 }
 
 // What `should_move` answers.
-#[derive(Drop)]
+#[derive(Clone, Copy)]
 pub enum ShouldMove {
     Yes,
     No,
@@ -44,7 +46,7 @@ pub enum ShouldMove {
 }
 
 // The three legs that are lifted together: left front, right middle, left rear; or the other three.
-#[derive(Drop)]
+#[derive(Clone, Copy)]
 pub enum Tripod {
     LRL,
     RLR,

@@ -56,7 +56,8 @@ two_steps =
 pub side_by_side : seen_both bench office ≡ two_steps
 unfolding texts body parted decimal decimal_within digit hex numeral lines_from line_of move_of header_of named short_of tabbed tabbeds
     all_good bits_of hex_of count_of
-    push_all push value_of count_digits read may_stand good_first good_later version_of rows_of pairs same_bytes difference tells_from tells_rows tells
+    push_all push value_of count_digits read may_stand good_first good_later version_of rows_of pairs same_bytes difference tells_from
+    tells_rows tells
 side_by_side = refl
 
 -- D, 2, z, +0, -0; D, 3, x and z with their patterns; D, 5; T, 3
@@ -76,14 +77,16 @@ pub refusals : map (λ (office : List Line). seen_both (Header 1 ∷ Arrived 3 �
     ∷ (told.Same ∷ told.Refused 2 ∷ []) ∷ (told.Refused 1 ∷ []) ∷ (told.Same ∷ told.Differs 2 ∷ told.Differs 3 ∷ told.Refused 4 ∷ []) ∷ []
 unfolding texts body parted decimal decimal_within digit hex numeral lines_from line_of move_of header_of named short_of tabbed tabbeds
     all_good bits_of hex_of count_of
-    push_all push value_of count_digits read may_stand good_first good_later version_of rows_of pairs same_bytes difference tells_from tells_rows tells
+    push_all push value_of count_digits read may_stand good_first good_later version_of rows_of pairs same_bytes difference tells_from
+    tells_rows tells
 refusals = refl
 
 -- six digits under header 2 beside a file of header 1: each is judged by its own
 pub own_header : seen_both (Header 1 ∷ Arrived 3 ∷ []) (Header 2 ∷ Arrived 100000 ∷ []) ≡ told.Same ∷ told.Differs 2 ∷ told.Total 1 ∷ []
 unfolding texts body parted decimal decimal_within digit hex numeral lines_from line_of move_of header_of named short_of tabbed tabbeds
     all_good bits_of hex_of count_of
-    push_all push value_of count_digits read may_stand good_first good_later version_of rows_of pairs same_bytes difference tells_from tells_rows tells
+    push_all push value_of count_digits read may_stand good_first good_later version_of rows_of pairs same_bytes difference tells_from
+    tells_rows tells
 own_header = refl
 
 -- no file, an empty one, one of a newline alone; a read that failed behind line 1; headers alone, of two versions
@@ -94,5 +97,6 @@ pub ends : (tells unopened (opened false []) ≡ told.Refused 0 ∷ []) × (tell
     × (seen_both (Header 1 ∷ []) (Header 2 ∷ []) ≡ told.Same ∷ told.Total 0 ∷ [])
 unfolding texts body parted decimal decimal_within digit hex numeral lines_from line_of move_of header_of named short_of tabbed tabbeds
     all_good bits_of hex_of count_of
-    push_all push value_of count_digits read may_stand good_first good_later version_of rows_of pairs same_bytes difference tells_from tells_rows tells
+    push_all push value_of count_digits read may_stand good_first good_later version_of rows_of pairs same_bytes difference tells_from
+    tells_rows tells
 ends = (refl, refl, refl, refl, refl, refl)

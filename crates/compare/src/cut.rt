@@ -8,7 +8,7 @@ use lines::carry::Carry;
 use lines::{carry, fields};
 
 // What is kept of the line; once it is whole, what it is; and where its chunk goes on.
-#[derive(Drop)]
+#[derive(Clone, Copy)]
 pub struct Cut {
     pub carry: Carry,
     pub seen: Seen,

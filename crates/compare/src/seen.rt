@@ -8,7 +8,7 @@ use lines::carry::Carry;
 use lines::listed::{Found, Line};
 use lines::{carry, listed};
 
-#[derive(Drop)]
+#[derive(Clone, Copy)]
 pub enum Seen {
     Good(Line),
     Bad,

@@ -12,7 +12,7 @@ use lines::listed::{Line, Moved};
 
 // Between two positions: the version of each file, the position that comes next, and how many differed before it. At 2^64 - 1 the last two
 // stay where they are.
-#[derive(Drop)]
+#[derive(Clone, Copy)]
 pub struct State {
     pub bench: u32,
     pub office: u32,
@@ -21,7 +21,7 @@ pub struct State {
 }
 
 // What a position tells, and the state after it.
-#[derive(Drop)]
+#[derive(Clone, Copy)]
 pub struct Step {
     pub told: Told,
     pub next: State,

@@ -11,7 +11,7 @@ use lines::{compared, fields};
 
 // How far it has come: the place behind what is stored, where either chunk goes on, the state, whether nothing more is told, and whether
 // it goes no further: a chunk has no whole line left, or the buffer no room.
-#[derive(Drop)]
+#[derive(Clone, Copy)]
 pub struct Reached {
     pub at: usize,
     pub bench: usize,

@@ -1,7 +1,7 @@
 -- Request K10's laws. One foot: "Two calls in which a step goes on, and which agree on one foot's start, last and target points, on the
 -- progress, the lifted tripod and the command, give that foot the same next point"; with K12, and its last mark, the same mark. A step ends
 -- at its time. A plan and rest keep the last feet, and so their joints. What is handed down is within. Assumes nothing.
-use Rattle.std.specs.Prelude.{◌≡◌, ℕ, suc, ◌≤◌, Bool, true, false, ◌&&◌, eqb, ◌⊎◌, List, [], ◌∷◌, ◌++◌, length}
+use Rattle.std.specs.Prelude.{◌≡◌, ℕ, suc, ◌≤◌, true, false, eqb, ◌⊎◌, [], length}
 use mathlib.Core.Path.{refl, sym, ap, ap₂, subst, ◌∙◌}
 use mathlib.Core.Bool.{true≢false}
 use mathlib.Core.Logic.{inl, inr}
@@ -10,8 +10,6 @@ use lib.Ieee.{Float}
 use Rattle.numbers.specs.Told.{Told, refused}
 use Rattle.numbers.proofs.Flags.{by_test, where_true, where_false, chosen}
 use Rattle.numbers.specs.Limits.{foot_limit}
-use Rattle.numbers.specs.Door.{unless, first_of}
-use Rattle.numbers.proofs.OnePass.{let_through, let_through_to}
 use Rattle.legs.specs.Legs.{Leg, point, points, foot, lifted, whole, every, finite_feet, permitted_feet}
 use Rattle.legs.specs.declared.Points.{Points}
 use Rattle.legs.specs.declared.Feet.{Feet}
@@ -46,7 +44,7 @@ use Rattle.joints.proofs.OneAnswer.{past_the_door, with_a_mark}
 use Rattle.joints.proofs.Told.{named_leg_below}
 use Rattle.joints.specs.declared.configuration.Configuration.{Configuration}
 use Rattle.conductor.specs.States.{even_of, with_last, planned_state, state_refusal, stood_state}
-use Rattle.conductor.specs.Answers.{told, kind_mark, kind_marks, kind_values, given_call}
+use Rattle.conductor.specs.Answers.{told, kind_mark, given_call}
 use Rattle.conductor.specs.Conduct.{Onward, onward, moved, handed, conduct_told, state_after}
 use Rattle.conductor.specs.How.{after_reply}
 use Rattle.conductor.specs.declared.State.{State}
@@ -59,7 +57,7 @@ use Rattle.conductor.proofs.Door.{same_refusal}
 use Rattle.conductor.proofs.Accepted.{Accepted, Stepped, PlannedNext, Rested, by_kind, told_as, after_is}
 use Rattle.conductor.proofs.Accepted.{joints_told, none_refused, last_permitted}
 use Rattle.conductor.proofs.Accepted.{all_permitted, elapsed_permitted_lem, period_permitted_lem}
-use Rattle.conductor.proofs.Left.{parts, after_step, after_plan, after_rest}
+use Rattle.conductor.proofs.Left.{parts, after_step, after_rest}
 use Rattle.conductor.proofs.OneAnswer.{told_loses_nothing}
 
 module _ (s : State) (elapsed : Time) (h : Accepted s elapsed) where
@@ -118,8 +116,10 @@ module _ (s : State) (elapsed : Time) (f : Feet) (j : Joints) (e : told (SaysSte
       go (inl (g, n, m)) =
           let is : f ≡ g =
           ap (feet_said f) (as_kind step (ap (λ (x : Onward). x.kind) m))
-          ∙ ap (λ (t : State). t.last) (after_step s elapsed step_accepted g m) in
-          (n ∙ ap (λ (x : Feet). EvenStep x (even_last (even_of s) x)) (sym is), m ∙ ap (λ (x : Feet). onward step (with_last s x)) (sym is))
+          ∙ ap (λ (t : State). t.last) (after_step s elapsed step_accepted g m) in (
+            n ∙ ap (λ (x : Feet). EvenStep x (even_last (even_of s) x)) (sym is),
+            m ∙ ap (λ (x : Feet). onward step (with_last s x)) (sym is),
+          )
       go (inr (inl (n, b, m))) = absurd (other (ap tag (as_kind planned (ap (λ (x : Onward). x.kind) m))))
       go (inr (inr (n, b, m))) = absurd (other (ap tag (as_kind rests (ap (λ (x : Onward). x.kind) m))))
 
@@ -392,10 +392,12 @@ module _ (s : State) (elapsed : Time) where
 
 -- a fresh state lifts LRL, stands where it is relaxed, and its command stands still
 module _ (f : Feet) (c : Configuration) where
-  pub stands_on : ((stood_state f c).start ≡ f) × ((stood_state f c).last ≡ f) × ((stood_state f c).target ≡ f) × ((stood_state f c).relaxed ≡ f)
+  pub stands_on : ((stood_state f c).start ≡ f) × ((stood_state f c).last ≡ f) × ((stood_state f c).target ≡ f)
+      × ((stood_state f c).relaxed ≡ f)
   unfolding stood_state
   stands_on = (refl, refl, refl, refl)
 
-  pub stands_still : ((stood_state f c).lifted ≡ LRL) × ((stood_state f c).command ≡ default_command) × ((stood_state f c).configuration ≡ c)
+  pub stands_still : ((stood_state f c).lifted ≡ LRL) × ((stood_state f c).command ≡ default_command)
+      × ((stood_state f c).configuration ≡ c)
   unfolding stood_state
   stands_still = (refl, refl, refl)

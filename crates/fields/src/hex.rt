@@ -3,7 +3,7 @@ use crate::line;
 use lines::digits;
 
 // How many bytes a field has, and whether it is of that kind.
-#[derive(Drop)]
+#[derive(Clone, Copy)]
 pub struct Bytes {
     pub len: usize,
     pub good: bool,

@@ -30,14 +30,14 @@ const WHOLE: u64 = 15;
 pub const NULL: u64 = 0x1_0000_0000;
 
 // A line's numbers, and whether it has its shape.
-#[derive(Drop)]
+#[derive(Clone, Copy)]
 pub struct Line {
     pub words: Words,
     pub good: bool,
 }
 
 // Bits read so far: the first is the lowest, the next has this weight.
-#[derive(Drop)]
+#[derive(Clone, Copy)]
 struct BitsRead {
     good: bool,
     value: u64,
@@ -45,7 +45,7 @@ struct BitsRead {
 }
 
 // A field's number, where the field ends, and whether it is of its kind.
-#[derive(Drop)]
+#[derive(Clone, Copy)]
 struct FieldRead {
     value: u64,
     end: usize,

@@ -6,7 +6,7 @@ use mathlib.Core.List.{List, [], ◌∷◌, ◌++◌}
 use Prim.Native.Nat.{ℕ, zero, suc}
 use lib.Ieee.{Float}
 use lib.ListN.{length, get_or}
-use Rattle.numbers.specs.Told.{Told, given, choose, answer}
+use Rattle.numbers.specs.Told.{given, choose, answer}
 use Rattle.numbers.proofs.OneAnswer.{SameButMarks, same_answers}
 use Rattle.legs.specs.Legs.{Leg, row, point, six_points, points, foot, lifted, whole, marked, origin, unused, nowhere, coordinates, values}
 use Rattle.legs.specs.Legs.{finite_point, permitted_point}
@@ -23,7 +23,7 @@ use Rattle.legs.specs.declared.Feet.{Feet}
 use Rattle.legs.proofs.Marks.{points_of_merge}
 use Rattle.rows.specs.Rows.{every_point, update_refusal, update_told}
 use Rattle.rows.proofs.Marks.{points_of_update}
-use Rattle.moves.specs.Distance.{longest_distance, max_horizontal_distance}
+use Rattle.moves.specs.Distance.{max_horizontal_distance}
 use Rattle.moves.specs.Moving.{move_points_towards, keeping, move_feet_towards}
 use Rattle.moves.specs.Answers.{of_moving_feet, lifts_of_moving, told_feet_step, told_next_feet}
 use Rattle.moves.specs.Refusals.{move_feet_refusal, longest_refusal}
@@ -187,7 +187,8 @@ module _ (x y : Leg → Bool) (last target : Feet) (m : Float) where
   next_alike (Moved p) = (refl, refl)
   next_alike (Arrived p) = (refl, refl)
 
-  pub next_feet_lem : SameButMarks (next_feet_told (moving_feet last target m)) (next_feet_told (moving_feet (remarked x last) (remarked y target) m))
+  pub next_feet_lem : SameButMarks (next_feet_told (moving_feet last target m))
+      (next_feet_told (moving_feet (remarked x last) (remarked y target) m))
   unfolding next_feet_told next_feet move_feet_towards move_feet_refusal
   next_feet_lem =
       same_answers (move_feet_refusal last target m)
@@ -246,7 +247,10 @@ module _ (x y z : Leg → Bool) where
   step_set_out start target move height t b =
       let here = step_state start target move height t b in
       let there = step_state (remarked x start) (remarked z target) move height t b in
-      same_answers (step_refusal here) (given (step_marks here) (step_values here)) (given (step_marks there) (step_values there)) (refl, refl)
+      same_answers (step_refusal here) (given (step_marks here) (step_values here)) (given (step_marks there) (step_values there)) (
+        refl,
+        refl,
+      )
 
   pub timed_set_out : (start target : Feet) (period : Time) (lift : Lift)
       → SameButMarks (timed_iter_told start target period lift) (timed_iter_told (remarked x start) (remarked z target) period lift)
@@ -282,7 +286,8 @@ module _ (x y z : Leg → Bool) where
   timed_alike s (Moved p) = (refl, refl)
   timed_alike s (Arrived p) = (refl, refl)
 
-  pub next_timed_lem : (s : TimedStepIterator) (elapsed : Time) → SameButMarks (next_timed_told s elapsed) (next_timed_told (timed s) elapsed)
+  pub next_timed_lem : (s : TimedStepIterator) (elapsed : Time) →
+      SameButMarks (next_timed_told s elapsed) (next_timed_told (timed s) elapsed)
   unfolding next_timed_told next_timed timed_at lift_refusal
   next_timed_lem s elapsed =
       same_answers (lift_refusal s.start s.last s.target s.lift (timely elapsed s.period))
@@ -290,7 +295,8 @@ module _ (x y z : Leg → Bool) where
       (timed_alike s
       (by_time (points s.start) (points s.last) (points s.target) s.lift (timed_progress elapsed s.period)))
 
-  even_alike : (s : EvenStepIterator) (g : PointsStep) → SameButMarks (told_next_even (even_after s g)) (told_next_even (even_after (even s) g))
+  even_alike : (s : EvenStepIterator) (g : PointsStep) →
+      SameButMarks (told_next_even (even_after s g)) (told_next_even (even_after (even s) g))
   unfolding stepped
   even_alike s (Moved p) = (refl, refl)
   even_alike s (Arrived p) = (refl, refl)

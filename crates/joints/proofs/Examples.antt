@@ -127,8 +127,10 @@ pub table :
     × (ik_told (six ahead ahead right_and_back right_and_back right_and_back right_and_back) crawler ≡ leg_refused 8 2)
     × (ik_told (six right_and_back ahead ahead ahead ahead (at nan (bits 0) (bits 0))) crawler ≡ refused 1)
     × (ik_told (six right_and_back ahead ahead ahead ahead (at (bits 0x3e80_0000) (bits 0) (bits 0x4080_0001))) crawler ≡ refused 2)
-unfolding ik_told ik_refusal legs_told past_refusal finite_configuration permitted_configuration finite_leg permitted_leg finite_body permitted_body
-    finite_point permitted_point finite foot_limit leg_length offset correction rotation over minus round ninety minus_ninety of_bits lt le eq
+unfolding ik_told ik_refusal legs_told past_refusal finite_configuration permitted_configuration finite_leg permitted_leg finite_body
+    permitted_body
+    finite_point permitted_point finite foot_limit leg_length offset correction rotation over minus round ninety minus_ninety of_bits lt le
+    eq
 table = (
   rw (angle_ahead) refl,
   rw (angle_ahead) (rw (angle_left) refl),
@@ -146,8 +148,10 @@ pub at_the_limit :
     × (ik_told all_ahead (left_rear_turned (bits 0x3fc9_0fda)) ≡ solved all_ahead (left_rear_turned (bits 0x3fc9_0fda)))
     × (ik_told all_ahead (left_rear_turned (bits 0xbfc9_0fda)) ≡ solved all_ahead (left_rear_turned (bits 0xbfc9_0fda)))
     × (ik_told (six to_the_side ahead ahead ahead ahead ahead) crawler ≡ solved (six to_the_side ahead ahead ahead ahead ahead) crawler)
-unfolding ik_told ik_refusal legs_told past_refusal finite_configuration permitted_configuration finite_leg permitted_leg finite_body permitted_body
-    finite_point permitted_point finite foot_limit leg_length offset correction rotation over minus round ninety minus_ninety of_bits lt le eq
+unfolding ik_told ik_refusal legs_told past_refusal finite_configuration permitted_configuration finite_leg permitted_leg finite_body
+    permitted_body
+    finite_point permitted_point finite foot_limit leg_length offset correction rotation over minus round ninety minus_ninety of_bits lt le
+    eq
 at_the_limit = (
   rw (angle_ahead) (rw angle_turned.0 refl),
   rw (angle_ahead) (rw angle_turned.1 refl),

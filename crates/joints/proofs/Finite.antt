@@ -79,7 +79,8 @@ angles_finite a b =
     (between_finite b.tibia))
 
 -- ---- the eighteen
-pub joints_finite : (f : Feet) (c : Configuration) → HeldConfiguration c → (j : Joints) → given_joints j ≡ ik_told f c → finite_joints j ≡ true
+pub joints_finite : (f : Feet) (c : Configuration) → HeldConfiguration c → (j : Joints) → given_joints j ≡ ik_told f c →
+    finite_joints j ≡ true
 joints_finite f c C j e =
     let h = holds (ik_configuration_permitted f c j e) in
     every_true (λ l. finite_angles (angles j l))

@@ -91,7 +91,8 @@ module _ (f : Feet) (c : Configuration) where
   strict_told p q e d =
       ap₂ (λ r s. unless_refused r (unless_refused s solved)) e d
       ∙ past_so reached
-      ∙ ap (first_leg (row (side_refusal f c)) 0) (reach_so solved ∙ ap (λ j. first_leg (row (reach_refusal f c)) 0 (given_joints j)) solved_so)
+      ∙ ap (first_leg (row (side_refusal f c)) 0) (reach_so solved
+      ∙ ap (λ j. first_leg (row (reach_refusal f c)) 0 (given_joints j)) solved_so)
 
   -- by the cases of the code
   pub old_past : (p : RefusedLeg) → p ≡ first_past (headings f c) → eqb p.refusal 0 ≡ false

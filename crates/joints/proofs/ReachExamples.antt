@@ -91,7 +91,8 @@ pub reach_table :
     × (strict_told (all_at 0x3f88_8000) rounded_up ≡ solved (all_at 0x3f88_8000) rounded_up)
 unfolding strict_told strict_legs_told distance_refusal farthest nearest distance horizontal_distance vectors.minus square_root magnitude
     add sub mul neg ik_refusal past_refusal finite_configuration permitted_configuration finite_leg permitted_leg finite_body permitted_body
-    finite_point permitted_point finite foot_limit leg_length offset correction rotation over minus round ninety minus_ninety of_bits lt le eq
+    finite_point permitted_point finite foot_limit leg_length offset correction rotation over minus round ninety minus_ninety of_bits lt le
+    eq
 reach_table = (
   rw angles_ahead.0 refl,
   rw (angle_ahead) (rw angles_ahead.1 refl),
@@ -109,7 +110,8 @@ pub reach_order :
     × (strict_told (six (on_x 0x3f88_8000) ahead ahead (on_x 0x3e3f_ffff) ahead ahead) longer_femur ≡ leg_refused 9 0)
 unfolding strict_told strict_legs_told distance_refusal farthest nearest distance horizontal_distance vectors.minus square_root magnitude
     add sub mul neg ik_refusal past_refusal finite_configuration permitted_configuration finite_leg permitted_leg finite_body permitted_body
-    finite_point permitted_point finite foot_limit leg_length offset correction rotation over minus round ninety minus_ninety of_bits lt le eq
+    finite_point permitted_point finite foot_limit leg_length offset correction rotation over minus round ninety minus_ninety of_bits lt le
+    eq
 reach_order = (
   refl,
   rw angles_ahead.1 (rw (angle_ahead) (rw (angle_right) refl)),
@@ -124,7 +126,8 @@ pub reach_besides :
     × (strict_told (six ahead ahead ahead up ahead ahead) crawler ≡ leg_refused 9 3)
 unfolding strict_told strict_legs_told distance_refusal farthest nearest distance horizontal_distance vectors.minus square_root magnitude
     add sub mul neg ik_refusal past_refusal finite_configuration permitted_configuration finite_leg permitted_leg finite_body permitted_body
-    finite_point permitted_point finite foot_limit leg_length offset correction rotation over minus round ninety minus_ninety of_bits lt le eq
+    finite_point permitted_point finite foot_limit leg_length offset correction rotation over minus round ninety minus_ninety of_bits lt le
+    eq
 reach_besides = (
   rw (angle_ahead) (rw angles_ahead.4 refl),
   rw angles_ahead.3 refl,

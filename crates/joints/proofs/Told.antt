@@ -51,7 +51,8 @@ module _ (f : Feet) (c : Configuration) where
       let outside : (permitted_feet foot_limit f && permitted_configuration c) ≡ false = simp p in
       let by_feet : (finite_feet f && finite_configuration c) ≡ finite_feet f =
       ap (λ (b : Bool). finite_feet f && b) (configuration_finite c q) ∙ and-true (finite_feet f) in
-      let n : either (unless (finite_feet f && finite_configuration c) 1) (unless (permitted_feet foot_limit f && permitted_configuration c) 2)
+      let n : either (unless (finite_feet f && finite_configuration c) 1)
+      (unless (permitted_feet foot_limit f && permitted_configuration c) 2)
       ≡ choose (finite_feet f) 2 1 =
       sym (kept_out (finite_feet f && finite_configuration c) (permitted_feet foot_limit f && permitted_configuration c) outside)
       ∙ ap (λ (b : Bool). choose b 2 1) by_feet in

@@ -7,7 +7,7 @@ use legs::{Joints, LegAngles, Point};
 use numbers::{door, limits};
 
 // What all legs share: the lengths of a leg's three parts, and how far its femur and tibia motors are turned.
-#[derive(Drop)]
+#[derive(Clone, Copy)]
 pub struct Body {
     pub coxa_length: f32,
     pub femur_length: f32,
@@ -17,7 +17,7 @@ pub struct Body {
 }
 
 // What is a leg's own: where its coxa sits, how that is turned, and what its femur and tibia motors are off by.
-#[derive(Drop)]
+#[derive(Clone, Copy)]
 pub struct LegConfiguration {
     pub position: Point,
     pub angle_offset: f32,
@@ -26,7 +26,7 @@ pub struct LegConfiguration {
 }
 
 // The body and its six legs.
-#[derive(Drop)]
+#[derive(Clone, Copy)]
 pub struct Configuration {
     pub body: Body,
     pub left_front: LegConfiguration,

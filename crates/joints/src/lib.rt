@@ -1,5 +1,7 @@
 // Joint angles for foot points, and foot points for joint angles (source 002).
 // Lengths are metres, angles radians.
+#![tactic(auto)]
+
 ghost use Rattle.std.specs.Prelude.{◌≡◌};
 ghost use Rattle.legs.specs.Answers.{told as told_feet};
 ghost use Rattle.joints.specs.Answers.{told};
@@ -17,7 +19,7 @@ pub mod unchecked;
 
 // What a solver answers: eighteen joint angles, or why not; where a leg is past its limit or out of reach, the refusal's number and the
 // leg, 0 to 5 in row order.
-#[derive(Drop)]
+#[derive(Clone, Copy)]
 pub enum Solution {
     Solved(Joints),
     Refused(u32),

@@ -17,14 +17,14 @@ const NINETY: f32 = 1.5707964;
 const ONE_FIFTY: f32 = 2.6179938;
 
 // How far a foot is from the end of its coxa: sideways, and straight.
-#[derive(Drop)]
+#[derive(Clone, Copy)]
 pub struct Distances {
     pub horizontal: f32,
     pub distance: f32,
 }
 
 // How a leg sets out: from its coxa to the target, its coxa's angle, and how far the foot is.
-#[derive(Drop)]
+#[derive(Clone, Copy)]
 pub struct Heading {
     pub relative_vector: Point,
     pub target_angle: f32,
@@ -32,7 +32,7 @@ pub struct Heading {
 }
 
 // Six legs that have set out.
-#[derive(Drop)]
+#[derive(Clone, Copy)]
 pub struct Headings {
     pub left_front: Heading,
     pub left_middle: Heading,
@@ -43,14 +43,14 @@ pub struct Headings {
 }
 
 // A leg that is refused: its number in row order, 0 to 5, and its refusal. Where no leg is refused, both are 0.
-#[derive(Drop)]
+#[derive(Clone, Copy)]
 pub struct RefusedLeg {
     pub leg: u32,
     pub refusal: u32,
 }
 
 // What six legs answer: their angles, or the refusal of the first leg that is refused, and that leg.
-#[derive(Drop)]
+#[derive(Clone, Copy)]
 pub enum LegsSolved {
     Joints(Joints),
     Refused(u32, u32),
@@ -86,7 +86,10 @@ pub fn get_alpha_angle(a: f32, b: f32, c: f32) -> f32
     let upper = b * b + c * c - a * a;
     let bottom = 2.0 * b * c;
     let quotient = upper / bottom;
-    arcs::unchecked::arc_cosine(numbers::unchecked::max(-1.0, numbers::unchecked::min(1.0, quotient)))
+    arcs::unchecked::arc_cosine(numbers::unchecked::max(
+        -1.0,
+        numbers::unchecked::min(1.0, quotient),
+    ))
 }
 
 // What a motor is told, for an angle in the leg.
@@ -296,7 +299,7 @@ pub fn from_motor(motor: f32, correction: f32, offset: f32) -> f32
 }
 
 // How far a leg's three parts are turned: the coxa from straight ahead, the femur and the tibia in the leg's own plane.
-#[derive(Drop)]
+#[derive(Clone, Copy)]
 pub struct Bends {
     pub base: f32,
     pub femur: f32,

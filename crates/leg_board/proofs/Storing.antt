@@ -25,7 +25,8 @@ pub same_told : {a b c d : WholePoint} {h i p q : ℤ} → a ≡ b → c ≡ d �
 same_told {a} {b} {c} {d} {h} {i} {p} {q} e f g k =
     ap₂ (λ (x y : WholePoint). step_leg_told x y h p) e f ∙ ap₂ (λ (x y : ℤ). step_leg_told b d x y) g k
 
-module _ (start target held : WholePoint) (height progress : ℤ) (r : WholeStep) (tells : told r ≡ step_leg_told start target height progress)
+module _ (start target held : WholePoint) (height progress : ℤ) (r : WholeStep)
+    (tells : told r ≡ step_leg_told start target height progress)
   where
     pub stored_at : (foot : WholePoint) → r ≡ At foot
         → (0 ≡ refusal start target height progress) × (foot ≡ stored start target height progress held)

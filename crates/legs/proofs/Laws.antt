@@ -69,7 +69,8 @@ each_of_every b h =
     (and_r (b left_front && b right_front && b left_middle && b right_middle) (b left_rear) five)
     (and_r (b left_front && b right_front && b left_middle && b right_middle && b left_rear) (b right_rear) h)
   where
-    at : T (b left_front) → T (b right_front) → T (b left_middle) → T (b right_middle) → T (b left_rear) → T (b right_rear) → (l : Leg) → T (b l)
+    at : T (b left_front) → T (b right_front) → T (b left_middle) → T (b right_middle) → T (b left_rear) → T (b right_rear) → (l : Leg) →
+        T (b l)
     at lf rf lm rm lr rr left_front = lf
     at lf rf lm rm lr rr right_front = rf
     at lf rf lm rm lr rr left_middle = lm

@@ -1,5 +1,7 @@
 // Six legs: feet and joint angles by leg, masks of legs, selection and merge (source 003).
 // Lengths are metres, angles radians.
+#![tactic(auto)]
+
 ghost use Rattle.std.specs.Prelude.{◌≡◌};
 ghost use Rattle.legs.specs.Answers.{told, told_selected};
 ghost use Rattle.legs.specs.Legs.{row, whole, from_row};
@@ -8,10 +10,10 @@ ghost use Rattle.legs.specs.Select.{select_refusal, select_told};
 
 use numbers::door;
 
-pub mod unchecked;
 pub mod flags;
+pub mod unchecked;
 
-#[derive(Drop)]
+#[derive(Clone, Copy)]
 pub struct Point {
     pub x: f32,
     pub y: f32,
@@ -19,7 +21,7 @@ pub struct Point {
 }
 
 // Six points, by leg: what is computed of feet.
-#[derive(Drop)]
+#[derive(Clone, Copy)]
 pub struct Points {
     pub left_front: Point,
     pub left_middle: Point,
@@ -30,14 +32,14 @@ pub struct Points {
 }
 
 // A foot: where it is, and whether it is lifted. One that is not stands.
-#[derive(Drop)]
+#[derive(Clone, Copy)]
 pub struct Foot {
     pub point: Point,
     pub lifted: bool,
 }
 
 // Six feet.
-#[derive(Drop)]
+#[derive(Clone, Copy)]
 pub struct Feet {
     pub left_front: Foot,
     pub left_middle: Foot,
@@ -48,7 +50,7 @@ pub struct Feet {
 }
 
 // The three joint angles of a leg.
-#[derive(Drop)]
+#[derive(Clone, Copy)]
 pub struct LegAngles {
     pub coxa: f32,
     pub femur: f32,
@@ -56,7 +58,7 @@ pub struct LegAngles {
 }
 
 // Eighteen joint angles.
-#[derive(Drop)]
+#[derive(Clone, Copy)]
 pub struct Joints {
     pub left_front: LegAngles,
     pub left_middle: LegAngles,
@@ -67,14 +69,14 @@ pub struct Joints {
 }
 
 // What an operation on feet answers: six feet, or why not.
-#[derive(Drop)]
+#[derive(Clone, Copy)]
 pub enum Planned {
     Feet(Feet),
     Refused(u32),
 }
 
 // A row of six with a length: that many places count, from the first on. The others hold +0 and stand.
-#[derive(Drop)]
+#[derive(Clone, Copy)]
 pub struct RowOfSix {
     pub len: usize,
     pub first: Foot,
@@ -86,7 +88,7 @@ pub struct RowOfSix {
 }
 
 // What a selection answers: the selected feet, or why not.
-#[derive(Drop)]
+#[derive(Clone, Copy)]
 pub enum Selected {
     Legs(RowOfSix),
     Refused(u32),

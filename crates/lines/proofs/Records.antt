@@ -47,7 +47,8 @@ unfolding record_of
 record_exact s w =
     let fs = tabbeds 7 (drop 1 s) in
     let t = eqb (get_or s 0 0) 87 in
-    chosen (λ (a : Asked). a ≡ Record w → ReadFrom s w) (eqb (length s) 64) (choose (all_good t fs) (Record (walk_of (bits_of fs))) NoRecord)
+    chosen (λ (a : Asked). a ≡ Record w →
+    ReadFrom s w) (eqb (length s) 64) (choose (all_good t fs) (Record (walk_of (bits_of fs))) NoRecord)
     NoRecord
     (λ long.
     let l : length s ≡ 64 = eqb-true (length s) 64 long in

@@ -1,7 +1,8 @@
 -- Document 01, "The walk printer": "floats as eight lower-case hex digits of their bits", "Counts have one to five
 -- decimal digits, no leading zero". How numbers are written, and how bytes are read as digits. How many digits a count may have is a
 -- limit here, since it depends on the listing's version (request K9): specs/Lines has it.
-use Rattle.std.specs.Prelude.{ℕ, zero, suc, ◌+◌, ◌-◌, ◌*◌, ◌/◌, ◌%◌, Bool, true, false, ◌&&◌, ◌||◌, not, List, [], ◌∷◌, ◌++◌, eqb, leb, ltb, length, get_or}
+use Rattle.std.specs.Prelude.{ℕ, zero, suc, ◌+◌, ◌-◌, ◌*◌, ◌/◌, ◌%◌, Bool, true, false, ◌&&◌, ◌||◌, not, List, [], ◌∷◌, ◌++◌, eqb, leb, ltb}
+use Rattle.std.specs.Prelude.{length, get_or}
 use Rattle.numbers.specs.Told.{choose}
 use Rattle.lines.specs.declared.digits.Digits.{Digits}
 

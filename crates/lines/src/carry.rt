@@ -4,7 +4,7 @@ ghost use Rattle.std.specs.Prelude.{◌≡◌, min};
 ghost use Rattle.lines.specs.Carry.{held, keep, fresh, too_long, has_begun};
 
 // What is kept of an unfinished line: its first `len` bytes, or that it is too long.
-#[derive(Drop)]
+#[derive(Clone, Copy)]
 pub struct Carry {
     pub bytes: [u8; 128],
     pub len: usize,

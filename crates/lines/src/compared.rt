@@ -9,7 +9,7 @@ use crate::listed::Moved;
 use crate::put;
 
 // Two steps at a position: the bench's and the office's.
-#[derive(Drop)]
+#[derive(Clone, Copy)]
 pub struct Both {
     pub position: u64,
     pub bench: Moved,
@@ -18,7 +18,7 @@ pub struct Both {
 
 // What a position tells: nothing, where the lines are the same; a difference, of two steps or of any other lines; that a line is bad; and
 // after the last one, how many differed.
-#[derive(Drop)]
+#[derive(Clone, Copy)]
 pub enum Told {
     Same,
     Differs(u64),

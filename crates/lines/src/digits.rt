@@ -3,7 +3,7 @@ ghost use Rattle.std.specs.Prelude.{◌≡◌, true, ◌+◌, ◌*◌, ◌%◌, 
 ghost use Rattle.lines.specs.Digits.{value_of, push, read_in, hex_of, count_of, no_digits};
 
 // What a run of bytes says as digits: whether it is good, and the number.
-#[derive(Drop)]
+#[derive(Clone, Copy)]
 pub struct Digits {
     pub good: bool,
     pub value: u64,

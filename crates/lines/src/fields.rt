@@ -6,14 +6,14 @@ ghost use Rattle.lines.specs.Parts.{tabbed, short_of};
 use crate::digits;
 
 // A number read from a field, and whether the field was good.
-#[derive(Drop)]
+#[derive(Clone, Copy)]
 pub struct Field {
     pub good: bool,
     pub bits: u32,
 }
 
 // Three of them: x, y, z.
-#[derive(Drop)]
+#[derive(Clone, Copy)]
 pub struct Three {
     pub good: bool,
     pub x: u32,

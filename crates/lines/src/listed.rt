@@ -10,7 +10,7 @@ use crate::fields::Field;
 use crate::{digits, fields, put};
 
 // A step that moved: its count from 1, and the new point as bit patterns.
-#[derive(Drop)]
+#[derive(Clone, Copy)]
 pub struct Moved {
     pub count: u32,
     pub x: u32,
@@ -19,7 +19,7 @@ pub struct Moved {
 }
 
 // A line of a listing: the header with its version, a step, the count of a walk that arrived, a refusal's number.
-#[derive(Drop)]
+#[derive(Clone, Copy)]
 pub enum Line {
     Header(u32),
     Move(Moved),
@@ -28,7 +28,7 @@ pub enum Line {
 }
 
 // What a line read back is.
-#[derive(Drop)]
+#[derive(Clone, Copy)]
 pub enum Found {
     Known(Line),
     NoLine,

@@ -9,7 +9,7 @@ use numbers::patterns;
 use numbers::patterns::Pattern;
 
 // Three coordinates, in metres.
-#[derive(Drop)]
+#[derive(Clone, Copy)]
 pub struct Place {
     pub x: f32,
     pub y: f32,
@@ -17,7 +17,7 @@ pub struct Place {
 }
 
 // What a `W` line asks for.
-#[derive(Drop)]
+#[derive(Clone, Copy)]
 pub struct Walk {
     pub max_move: f32,
     pub start: Place,
@@ -25,7 +25,7 @@ pub struct Walk {
 }
 
 // What a line is.
-#[derive(Drop)]
+#[derive(Clone, Copy)]
 pub enum Asked {
     Record(Walk),
     NoRecord,

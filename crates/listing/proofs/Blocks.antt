@@ -174,7 +174,8 @@ part_more {l} {l'} {l''} {at} {k} {k'} {whole} r q x p going room is line s few 
 abbrev begins : Float → Point → Point → Rest
 begins m s t = record { max_move = m; last = s; target = t; made = 0; refused = 0; done = false }
 
-given_walk : (m : Float) (s t : Point) → Fit m → Each Fit s → Each Fit t → walk_refusal m s t ≡ 0 → WalkPrints m s t (text_of (begins m s t))
+given_walk : (m : Float) (s t : Point) → Fit m → Each Fit s → Each Fit t → walk_refusal m s t ≡ 0 →
+    WalkPrints m s t (text_of (begins m s t))
 unfolding text_of most_steps
 given_walk m s t Fm Fs Ft e =
     let w = let_in_ends m s t Fm Fs Ft e in

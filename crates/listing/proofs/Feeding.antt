@@ -1,5 +1,6 @@
 -- What a printer reads, stores and leaves: nothing, a line, the rest of a part; and two calls behind each other are one.
-use Rattle.std.specs.Prelude.{◌≡◌, ℕ, suc, ◌+◌, ◌-◌, ◌<◌, ◌≤◌, Bool, true, false, not, ◌&&◌, leb, List, [], ◌∷◌, ◌++◌, map, length, take, drop}
+use Rattle.std.specs.Prelude.{◌≡◌, ℕ, suc, ◌+◌, ◌-◌, ◌<◌, ◌≤◌, Bool, true, false, not, ◌&&◌, leb, List, [], ◌∷◌, ◌++◌, map, length, take}
+use Rattle.std.specs.Prelude.{drop}
 use mathlib.Core.Path.{refl, ap, ◌∙◌, sym, subst}
 use mathlib.Core.Bool.{false≢true}
 use mathlib.Core.List.{append_assoc, append-nil}

@@ -120,7 +120,8 @@ module _ (before l : List ℕ) (whole : (lines_from [] before).begun ≡ []) (fr
 
   -- however the input is cut, it is refused once, at its newline
   pub overlong_once : (parts : List (List ℕ)) (text s : List ℕ) → joined parts ≡ before ++ (l ++ (newline ∷ s)) → PrintsParts parts text
-      → (t : List ℕ) × (u : List ℕ) × (text ≡ t ++ (written (Refused 7) ++ u)) × Listing before t × AllPrint (map record_of (input_lines s)) u
+      → (t : List ℕ) × (u : List ℕ) × (text ≡ t ++ (written (Refused 7) ++ u)) × Listing before t × AllPrint (map record_of (input_lines s))
+      u
   overlong_once parts text s is x =
       between (before ++ (l ++ (newline ∷ s))) text (map record_of (input_lines s))
       (subst (λ (i : List ℕ). Listing i text) is (cut_anywhere parts text x)) (asked_once s)

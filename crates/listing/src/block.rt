@@ -14,7 +14,7 @@ use lines::{listed, record};
 
 // What is left of a block: after `made` steps the walk stands at `last`; once it is at `target`, `A` and the count, or
 // where `refused` is not 0, `R` and that number. Then it is done.
-#[derive(Drop)]
+#[derive(Clone, Copy)]
 pub struct Rest {
     pub max_move: f32,
     pub last: Point,
@@ -25,7 +25,7 @@ pub struct Rest {
 }
 
 // The place after what was stored, and what is left.
-#[derive(Drop)]
+#[derive(Clone, Copy)]
 pub struct Filled {
     pub at: usize,
     pub rest: Rest,

@@ -10,14 +10,14 @@ use lines::carry::Carry;
 use lines::{carry, fields};
 
 // What is kept of the unfinished line, and what is left of the block that is being printed.
-#[derive(Drop)]
+#[derive(Clone, Copy)]
 pub struct Printer {
     pub carry: Carry,
     pub rest: Rest,
 }
 
 // How far it has come: the printer, the place behind what is read of the part, the place behind what is stored in the buffer.
-#[derive(Drop)]
+#[derive(Clone, Copy)]
 pub struct Reached {
     pub printer: Printer,
     pub from: usize,

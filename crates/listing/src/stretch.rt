@@ -9,7 +9,7 @@ use lines::{fields, record};
 
 // How far it has come: what is left to print, the places behind what is read of the part and behind what is stored in the buffer, whether
 // something of a line is kept, so that no line lies whole, and whether it goes no further: no whole line is left, or no room.
-#[derive(Drop)]
+#[derive(Clone, Copy)]
 pub(crate) struct Stretch {
     pub rest: Rest,
     pub from: usize,

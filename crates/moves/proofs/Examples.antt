@@ -30,6 +30,7 @@ Tells tell = (tell (at 0x8000_0000 0) (at 0 0) (of_bits binary32 0) ≡ is_at 0 
     × (tell (at 0 0) (at 0 0x3e80_0000) (of_bits binary32 0x3e00_0000) ≡ is_at 1 0 0x3e00_0000)
 
 pub by_either_distance : Tells move_told × Tells move_vector_told
-unfolding move_told move_vector_told move_refusal finite_point permitted_point foot_limit max_move over minus finite move_towards move_vector_towards
+unfolding move_told move_vector_told move_refusal finite_point permitted_point foot_limit max_move over minus finite move_towards
+    move_vector_towards
     step_at nearer along component same distance square_sum square_root of_bits add sub mul div le eq
 by_either_distance = ((refl, refl, refl), (refl, refl, refl))

@@ -215,7 +215,8 @@ data Roots : List Float → List Float → Type 0 where
   none : Roots [] []
   more : {y : Float} {ys zs : List Float} → Rootable y → Roots ys zs → Roots (y ∷ ys) (square_root y ∷ zs)
 
-root_of_row : (x : Float) → Rootable x → {ys zs : List Float} → Roots ys zs → square_root (largest_from x ys) ≡ largest_from (square_root x) zs
+root_of_row : (x : Float) → Rootable x → {ys zs : List Float} → Roots ys zs →
+    square_root (largest_from x ys) ≡ largest_from (square_root x) zs
 root_of_row x p none = refl
 root_of_row x p (more {y = y} {zs = zs} q r) =
     root_of_row (greater x y) (greater_rootable x y p q) r

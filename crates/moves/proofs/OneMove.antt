@@ -38,7 +38,8 @@ square_round false a c = refl
 abbrev joined : Bool → ℕ → Bool → ℕ → ℕ
 joined s a t b = cond (beq s t) (a + b) (gap a b)
 
-square_sum_lem : (s : Bool) (a : ℕ) (t : Bool) (b c : ℕ) → square (sum binary32 s a t b c) ≡ square (round binary32 false (joined s a t b) c)
+square_sum_lem : (s : Bool) (a : ℕ) (t : Bool) (b c : ℕ) →
+    square (sum binary32 s a t b c) ≡ square (round binary32 false (joined s a t b) c)
 unfolding sum
 square_sum_lem s a t b c = by_tests (beq s t) (ltb a b) refl
   where

@@ -41,7 +41,8 @@ module _ (l t : Point) (m : Float) where
   move_turned_away = turned_away finite_point (permitted_point foot_limit) max_move l t m
 
 module _ (l t : Feet) (m : Float) where
-  pub move_feet_taken : (permitted_feet foot_limit l && permitted_feet foot_limit t && permits max_move m) ≡ true → 0 ≡ move_feet_refusal l t m
+  pub move_feet_taken : (permitted_feet foot_limit l && permitted_feet foot_limit t && permits max_move m) ≡ true →
+      0 ≡ move_feet_refusal l t m
   unfolding move_feet_refusal
   move_feet_taken = taken finite_feet (permitted_feet foot_limit) max_move l t m legs.in_feet_row longest
 

@@ -137,30 +137,31 @@ Fit x = T (fits binary32 x)
 eighteen : (a b c d u : ℕ) → a ≤ 4 * u → b ≤ 4 * u → c ≤ 4 * u → d ≤ 4 * u → gap (a + d) (b + c) ≤ 18 * u
 eighteen a b c d u x y z w = omega arith
 
-module _ (a b : Point) (Fa : Each Fit a) (Fb : Each Fit b) (pa : T (permitted_point foot_limit a)) (pb : T (permitted_point foot_limit b)) where
-  units : (x : Float) → Fit x → T (permits foot_limit x) → Units x
-  units x F h = (permitted foot_limit 0 (4 * unity) (4 * unity) 0 foot_ends x F h).single.ok
+module _ (a b : Point) (Fa : Each Fit a) (Fb : Each Fit b) (pa : T (permitted_point foot_limit a)) (pb : T (permitted_point foot_limit b))
+  where
+    units : (x : Float) → Fit x → T (permits foot_limit x) → Units x
+    units x F h = (permitted foot_limit 0 (4 * unity) (4 * unity) 0 foot_ends x F h).single.ok
 
-  close : (x y : Float) → Fit x → Fit y → T (permits foot_limit x) → T (permits foot_limit y) → apart x y ≤ 18 * unity
-  close x y F G h k =
-      let p = permitted_parts foot_limit 0 (4 * unity) (4 * unity) 0 foot_ends (4 * unity) (lit≤ tt) (lit≤ tt) x F h in
-      let q = permitted_parts foot_limit 0 (4 * unity) (4 * unity) 0 foot_ends (4 * unity) (lit≤ tt) (lit≤ tt) y G k in
-      eighteen (hi x) (lo x) (hi y) (lo y) unity p.0 p.1 q.0 q.1
+    close : (x y : Float) → Fit x → Fit y → T (permits foot_limit x) → T (permits foot_limit y) → apart x y ≤ 18 * unity
+    close x y F G h k =
+        let p = permitted_parts foot_limit 0 (4 * unity) (4 * unity) 0 foot_ends (4 * unity) (lit≤ tt) (lit≤ tt) x F h in
+        let q = permitted_parts foot_limit 0 (4 * unity) (4 * unity) 0 foot_ends (4 * unity) (lit≤ tt) (lit≤ tt) y G k in
+        eighteen (hi x) (lo x) (hi y) (lo y) unity p.0 p.1 q.0 q.1
 
-  near : Near a b
-  near =
-      let p = each_permitted foot_limit a pa in
-      let q = each_permitted foot_limit b pb in
-      record {
-        from = (units a.x Fa.0 p.0, units a.y Fa.1 p.1, units a.z Fa.2 p.2);
-        to = (units b.x Fb.0 q.0, units b.y Fb.1 q.1, units b.z Fb.2 q.2);
-        x = close b.x a.x Fb.0 Fa.0 q.0 p.0;
-        y = close b.y a.y Fb.1 Fa.1 q.1 p.1;
-        z = close b.z a.z Fb.2 Fa.2 q.2 p.2;
-      }
+    near : Near a b
+    near =
+        let p = each_permitted foot_limit a pa in
+        let q = each_permitted foot_limit b pb in
+        record {
+          from = (units a.x Fa.0 p.0, units a.y Fa.1 p.1, units a.z Fa.2 p.2);
+          to = (units b.x Fb.0 q.0, units b.y Fb.1 q.1, units b.z Fb.2 q.2);
+          x = close b.x a.x Fb.0 Fa.0 q.0 p.0;
+          y = close b.y a.y Fb.1 Fa.1 q.1 p.1;
+          z = close b.z a.z Fb.2 Fa.2 q.2 p.2;
+        }
 
-  pub square_sum_permitted : T (permits root_argument (square_sum a b))
-  square_sum_permitted = root_permits (square_sum a b) _ (square_sum_value a b near) (all_le a b near)
+    pub square_sum_permitted : T (permits root_argument (square_sum a b))
+    square_sum_permitted = root_permits (square_sum a b) _ (square_sum_value a b near) (all_le a b near)
 
-  pub horizontal_sum_permitted : T (permits root_argument (horizontal_sum a b))
-  horizontal_sum_permitted = root_permits (horizontal_sum a b) _ (horizontal_sum_value a b near) (le_trans (both_le a b near) (lit≤ tt))
+    pub horizontal_sum_permitted : T (permits root_argument (horizontal_sum a b))
+    horizontal_sum_permitted = root_permits (horizontal_sum a b) _ (horizontal_sum_value a b near) (le_trans (both_le a b near) (lit≤ tt))

@@ -1,5 +1,7 @@
 // Foot moves: one step towards a target, for a point or a vector and for six feet, and the states that make step
 // after step; the longest distance between two sets of feet (source 001). Lengths are metres.
+#![tactic(auto)]
+
 ghost use Rattle.std.specs.Prelude.{◌≡◌};
 ghost use Rattle.numbers.specs.Answers.{told as told_number};
 ghost use Rattle.moves.specs.Answers.{told, told_feet, told_point_iter, told_feet_iter, told_next_point, told_next_feet};
@@ -13,35 +15,35 @@ use numbers::{Answer, door};
 pub mod unchecked;
 
 // What one step makes of a point: moved to a new point, or at the target already.
-#[derive(Drop)]
+#[derive(Clone, Copy)]
 pub enum MoveStep {
     Moved(Point),
     Arrived(Point),
 }
 
 // What one step makes of six feet: one moved at least, or all at their targets already.
-#[derive(Drop)]
+#[derive(Clone, Copy)]
 pub enum FeetStep {
     Moved(Feet),
     Arrived(Feet),
 }
 
 // What a step answers: the step, or why not.
-#[derive(Drop)]
+#[derive(Clone, Copy)]
 pub enum Towards {
     Answered(MoveStep),
     Refused(u32),
 }
 
 // What a step of six feet answers: the step, or why not.
-#[derive(Drop)]
+#[derive(Clone, Copy)]
 pub enum FeetTowards {
     Answered(FeetStep),
     Refused(u32),
 }
 
 // A point on its way, one step of at most max_move at a time.
-#[derive(Drop)]
+#[derive(Clone, Copy)]
 pub struct MovingPoint {
     pub target: Point,
     pub max_move: f32,
@@ -49,7 +51,7 @@ pub struct MovingPoint {
 }
 
 // Six feet on their way, one step of at most max_move at a time.
-#[derive(Drop)]
+#[derive(Clone, Copy)]
 pub struct MovingFeet {
     pub target: Feet,
     pub max_move: f32,
@@ -57,27 +59,27 @@ pub struct MovingFeet {
 }
 
 // What setting out answers: the state, or why not.
-#[derive(Drop)]
+#[derive(Clone, Copy)]
 pub enum PointIter {
     State(MovingPoint),
     Refused(u32),
 }
 
-#[derive(Drop)]
+#[derive(Clone, Copy)]
 pub enum FeetIter {
     State(MovingFeet),
     Refused(u32),
 }
 
 // What the next step answers: where the point is now and the state after, that it stands at its target, or why not.
-#[derive(Drop)]
+#[derive(Clone, Copy)]
 pub enum NextPoint {
     Moved(Point, MovingPoint),
     Done,
     Refused(u32),
 }
 
-#[derive(Drop)]
+#[derive(Clone, Copy)]
 pub enum NextFeet {
     Moved(Feet, MovingFeet),
     Done,

@@ -13,7 +13,7 @@ use crate::{FeetStep, MoveStep, MovingFeet, MovingPoint, NextFeet, NextPoint};
 use legs::{Feet, Point, Points};
 
 // What one step makes of six points: one moved at least, or all at their targets already.
-#[derive(Drop)]
+#[derive(Clone, Copy)]
 pub enum PointsStep {
     Moved(Points),
     Arrived(Points),

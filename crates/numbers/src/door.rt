@@ -4,7 +4,7 @@ ghost use Rattle.numbers.specs.Told.{choose};
 ghost use Rattle.numbers.specs.Door.{finite, permits, unless};
 
 // Two ends, both permitted.
-#[derive(Drop)]
+#[derive(Clone, Copy)]
 pub struct Limit {
     pub from: f32,
     pub to: f32,

@@ -1,16 +1,18 @@
 // The door: what every public entry asks of the numbers that come in, document 01's table of
 // permitted numbers, its refusals, and the three operations that take every finite number.
+#![tactic(auto)]
+
 ghost use Rattle.std.specs.Prelude.{◌≡◌};
 ghost use Rattle.numbers.specs.Answers.{told};
 ghost use Rattle.numbers.specs.Finite.{absolute_told, min_told, max_told};
 
-pub mod unchecked;
 pub mod door;
 pub mod limits;
 pub mod patterns;
+pub mod unchecked;
 
 // What an operation on numbers answers: a number, or why not.
-#[derive(Drop)]
+#[derive(Clone, Copy)]
 pub enum Answer {
     Value(f32),
     Refused(u32),

@@ -143,13 +143,15 @@ word_again a b c d ha hb hc hd =
 -- ---- floats: every float that the format holds, NaN among them, is read of its bytes; what was read is written as it was if it is finite
 pub float_back : (x : Float) (rest : List ℕ) → T (fits binary32 x) → float_at (float_bytes x ++ rest) 0 ≡ x
 unfolding float_at
-float_back x rest held = ap (of_bits binary32) (word_split (to_bits binary32 x) (to_bits-lt binary32 x held)) ∙ of_bits-to_bits binary32 x held
+float_back x rest held =
+    ap (of_bits binary32) (word_split (to_bits binary32 x) (to_bits-lt binary32 x held)) ∙ of_bits-to_bits binary32 x held
 
 pub float_again : (a b c d : ℕ) → a < 256 → b < 256 → c < 256 → d < 256 → finite (of_bits binary32 (word a b c d)) ≡ true
     → float_bytes (of_bits binary32 (word a b c d)) ≡ a ∷ b ∷ c ∷ d ∷ []
 float_again a b c d ha hb hc hd e =
     let small : word a b c d < 4294967296 = omega arith in
-    ap word_bytes (to_bits-of_bits binary32 (word a b c d) small (no_nan (of_bits binary32 (word a b c d)) e)) ∙ word_again a b c d ha hb hc hd
+    ap word_bytes (to_bits-of_bits binary32 (word a b c d) small (no_nan (of_bits binary32 (word a b c d)) e))
+    ∙ word_again a b c d ha hb hc hd
 
 pub mark_again : (m : ℕ) → m ≤ 1 → mark (eqb m 1) ≡ m
 mark_again zero h = refl

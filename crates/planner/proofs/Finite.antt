@@ -198,17 +198,18 @@ module _ (start relaxed : Points) (lifted : Tripod) (c : MoveCommand) where
 
 module _ (start relaxed : Feet) (lifted : Tripod) (c : MoveCommand) (S : HeldFeet start) (R : HeldFeet relaxed)
     (X : T (fits binary32 c.direction_x)) (Y : T (fits binary32 c.direction_y))
-    (i : permitted_feet rows.foot_limit start ≡ true) (j : permitted_feet rows.foot_limit relaxed ≡ true) (k : permitted_command c ≡ true) where
-  plan_bounds : (l : Leg) → PointBounds 240 (foot (planned_feet start relaxed lifted c) l)
-  plan_bounds l =
-      subst (λ (q : Points). PointBounds 240 (point q l)) (sym (points_of_plan start relaxed lifted c))
-      (foot_bounds (points start) (points relaxed) lifted c (feet_bounds start S (holds i)) (feet_bounds relaxed R (holds j))
-      (motion_bounds c X Y (holds k)) l)
+    (i : permitted_feet rows.foot_limit start ≡ true) (j : permitted_feet rows.foot_limit relaxed ≡ true) (k : permitted_command c ≡ true)
+  where
+    plan_bounds : (l : Leg) → PointBounds 240 (foot (planned_feet start relaxed lifted c) l)
+    plan_bounds l =
+        subst (λ (q : Points). PointBounds 240 (point q l)) (sym (points_of_plan start relaxed lifted c))
+        (foot_bounds (points start) (points relaxed) lifted c (feet_bounds start S (holds i)) (feet_bounds relaxed R (holds j))
+        (motion_bounds c X Y (holds k)) l)
 
-  pub plan_finite : finite_feet (planned_feet start relaxed lifted c) ≡ true
-  plan_finite =
-      every_true (λ l. finite_point (foot (planned_feet start relaxed lifted c) l))
-      (λ l. point_finite (foot (planned_feet start relaxed lifted c) l) (plan_bounds l))
+    pub plan_finite : finite_feet (planned_feet start relaxed lifted c) ≡ true
+    plan_finite =
+        every_true (λ l. finite_point (foot (planned_feet start relaxed lifted c) l))
+        (λ l. point_finite (foot (planned_feet start relaxed lifted c) l) (plan_bounds l))
 
-  pub plan_held : HeldFeet (planned_feet start relaxed lifted c)
-  plan_held l = let b = plan_bounds l in record { x = b.x.held; y = b.y.held; z = b.z.held }
+    pub plan_held : HeldFeet (planned_feet start relaxed lifted c)
+    plan_held l = let b = plan_bounds l in record { x = b.x.held; y = b.y.held; z = b.z.held }

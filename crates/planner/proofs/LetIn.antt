@@ -14,7 +14,8 @@ use Rattle.commands.specs.declared.MoveCommand.{MoveCommand}
 use Rattle.commands.proofs.OnePass.{command_finite}
 use Rattle.planner.specs.Entry.{plan_refusal}
 
-pub plan_let_in : (start relaxed : Feet) (c : MoveCommand) → permitted_feet foot_limit start ≡ true → permitted_feet foot_limit relaxed ≡ true
+pub plan_let_in : (start relaxed : Feet) (c : MoveCommand) → permitted_feet foot_limit start ≡ true →
+    permitted_feet foot_limit relaxed ≡ true
     → permitted_command c ≡ true → period_permitted c.step_time ≡ true → plan_refusal start relaxed c ≡ 0
 unfolding plan_refusal
 plan_let_in start relaxed c i j k q =

@@ -1,5 +1,7 @@
 // Where the feet are to be next: the lifted three ahead, the standing three back under the body (source 000).
 // Lengths are metres, angles radians.
+#![tactic(auto)]
+
 ghost use Rattle.std.specs.Prelude.{◌≡◌};
 ghost use Rattle.legs.specs.Answers.{told};
 ghost use Rattle.planner.specs.Entry.{plan_refusal, plan_told};
@@ -8,8 +10,8 @@ use commands::{MoveCommand, Tripod};
 use legs::{Feet, Planned};
 use numbers::door;
 
-pub mod unchecked;
 pub mod turns;
+pub mod unchecked;
 
 // Why a plan is refused: the lowest number that applies, or 0.
 pub fn plan_refused(start: Feet, relaxed: Feet, command: MoveCommand) -> u32

@@ -9,7 +9,7 @@ use commands::{MoveCommand, Tripod};
 use legs::{Point, Points};
 
 // The three standing feet, in the order in which they are summed.
-#[derive(Drop)]
+#[derive(Clone, Copy)]
 pub struct Trio {
     pub first: Point,
     pub second: Point,

@@ -75,7 +75,8 @@ all_inside_lem : (p : OptionalLegPositions) → ((l : Leg) → inside (written_v
     all_inside (map (member_for p) ls) ≡ true
 unfolding all_inside
 all_inside_lem p h [] = refl
-all_inside_lem p h (l ∷ ls) = and_both (inside (written_value (leg_of p l))) (all_inside (map (member_for p) ls)) (h l) (all_inside_lem p h ls)
+all_inside_lem p h (l ∷ ls) =
+    and_both (inside (written_value (leg_of p l))) (all_inside (map (member_for p) ls)) (h l) (all_inside_lem p h ls)
 
 nothing_refused : (i o : Bool) (t : Told) → i ≡ true → o ≡ true → answer (either (unless i 2) (unless o 14)) t ≡ t
 nothing_refused i o t p q = simp (p, q)

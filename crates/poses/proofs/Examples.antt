@@ -50,12 +50,15 @@ one_foot_text =
     ∷ 110 ∷ 117 ∷ 108 ∷ 108 ∷ 125 ∷ []
 
 is_written : pose_text one_foot ≡ one_foot_text
-unfolding one_foot_text pose_text named_text point_text number_text parts_text parted digit numeral written_as nearest_whole mag of_bits to_bits
+unfolding one_foot_text pose_text named_text point_text number_text parts_text parted digit numeral written_as nearest_whole mag of_bits
+    to_bits
 is_written = refl
 
 is_read : from_json_told one_foot_text ≡ given_pose one_foot
-unfolding one_foot_text read_told reading found found_from member_at value_at null_at three_at number_at amount_at run_of name_end closing char_long
-    escaped wide blanks leg_named same all_inside times all_known value_from read_as round permitted_point foot_limit over minus le given_pose
+unfolding one_foot_text read_told reading found found_from member_at value_at null_at three_at number_at amount_at run_of name_end closing
+    char_long
+    escaped wide blanks leg_named same all_inside times all_known value_from read_as round permitted_point foot_limit over minus le
+    given_pose
     of_bits
 is_read = refl
 
@@ -96,7 +99,8 @@ in_order :
     × (from_json_told outside_and_a_comma ≡ refused 13)
     × (from_json_told above_four ≡ refused 2)
     × (from_json_told as_good_as_four ≡ refused 14)
-unfolding read_told reading found found_from member_at value_at null_at three_at number_at amount_at run_of name_end closing char_long escaped wide
+unfolding read_told reading found found_from member_at value_at null_at three_at number_at amount_at run_of name_end closing char_long
+    escaped wide
     blanks leg_named same all_inside times all_known value_from read_as round permitted_point foot_limit over minus le
 in_order = (refl, refl, refl, refl, refl, refl)
 

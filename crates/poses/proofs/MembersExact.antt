@@ -41,7 +41,8 @@ member_spans s i h =
 abbrev Behind : Member → Language
 Behind m = ws then one 58 then ws then value m.value
 
-member_at_lem : (s : List ℕ) (i : ℕ) (m : Member) (t w u : List ℕ) → member m t → ws w → is_blank (byte u 0) ≡ false → At s i (t ++ (w ++ u))
+member_at_lem : (s : List ℕ) (i : ℕ) (m : Member) (t w u : List ℕ) → member m t → ws w → is_blank (byte u 0) ≡ false →
+    At s i (t ++ (w ++ u))
     → ((member_at s i).member ≡ m) × At s (member_at s i).next u
 unfolding member_at
 member_at_lem s i m t w u d blank no_blank x =

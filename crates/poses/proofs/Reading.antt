@@ -63,7 +63,8 @@ alone n w h d g = elim (eq-zero-or-pos n) [
       let e : rounded n whole_decimals ≡ m * 2 ^ k = rounded_is n whole_decimals m k (lit< tt) (no_overflow n h) s.2 in
       elim (nearer {a = n * unity} {c = whole_decimals} {m = m} {k = k} (lit< tt) s.2 w d) [
         | inl f ↦ f ∙ sym e
-        | inr f ↦ absurd (not-le_of_lt f (subst (λ (r : ℕ). gap (w * whole_decimals) (n * unity) ≤ gap (r * whole_decimals) (n * unity)) e g))
+        | inr f ↦ absurd
+            (not-le_of_lt f (subst (λ (r : ℕ). gap (w * whole_decimals) (n * unity) ≤ gap (r * whole_decimals) (n * unity)) e g))
       ]
 ]
   where

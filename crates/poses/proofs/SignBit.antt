@@ -21,7 +21,8 @@ read_no_nan minus n b h e =
     subst (λ (z : Bool). T (not z)) (sym (nan_bits_is binary32 b ∙ ap is_nan e))
     (finite_no_nan (read_as minus n) (finite_of (read_as minus n) minus (rounded n whole_decimals) unity (read_value minus n h)))
 
-pub read_minus : (n b : ℕ) → n < 10 ^ 9 → b < 2 ^ 31 → of_bits binary32 b ≡ read_as false n → of_bits binary32 (b + 2147483648) ≡ read_as true n
+pub read_minus : (n b : ℕ) → n < 10 ^ 9 → b < 2 ^ 31 → of_bits binary32 b ≡ read_as false n →
+    of_bits binary32 (b + 2147483648) ≡ read_as true n
 read_minus n b h l e =
     let G = rounded n whole_decimals in
     let v : HasValue (of_bits binary32 b) false G unity =

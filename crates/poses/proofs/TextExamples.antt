@@ -37,7 +37,8 @@ are_derived :
     × (reading one_null ≡ derived (one_member null))
     × (reading blanks_behind ≡ derived (one_member null))
     × (reading three_numbers ≡ derived (one_member (three (parts_of false 100000000) (parts_of true 50000000) (parts_of false 200000000))))
-unfolding reading found found_from member_at value_at null_at three_at number_at amount_at run_of name_end closing char_long escaped wide blanks
+unfolding reading found found_from member_at value_at null_at three_at number_at amount_at run_of name_end closing char_long escaped wide
+    blanks
 are_derived = (refl, refl, refl, refl)
 
 -- ---- not derived
@@ -97,5 +98,6 @@ are_underived :
     × (reading byte_order_mark ≡ underived)
     × (reading newline_in_the_name ≡ underived)
     × (reading surrogate_in_the_name ≡ underived)
-unfolding reading found found_from member_at value_at null_at three_at number_at amount_at run_of name_end closing char_long escaped wide blanks
+unfolding reading found found_from member_at value_at null_at three_at number_at amount_at run_of name_end closing char_long escaped wide
+    blanks
 are_underived = (refl, refl, refl, refl, refl, refl, refl, refl, refl, refl, refl)

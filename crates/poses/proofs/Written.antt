@@ -1,6 +1,7 @@
 -- The text that is written of a pose is derived by the grammar, with the six names in the source's order and the numbers as they are
 -- written.
-use Rattle.std.specs.Prelude.{◌≡◌, ℕ, zero, suc, ◌+◌, ◌-◌, ◌*◌, ◌/◌, ◌%◌, ◌^◌, ◌<◌, Bool, true, false, ◌&&◌, T, ltb, leb, List, [], ◌∷◌, ◌++◌, map, length}
+use Rattle.std.specs.Prelude.{◌≡◌, ℕ, zero, suc, ◌+◌, ◌-◌, ◌*◌, ◌/◌, ◌%◌, ◌^◌, ◌<◌, Bool, true, false, ◌&&◌, T, ltb, leb, List, [], ◌∷◌}
+use Rattle.std.specs.Prelude.{◌++◌, map, length}
 use mathlib.Core.Path.{refl, sym, ap, subst, ◌∙◌}
 use mathlib.Core.List.{append_assoc, append-nil}
 use native.Mathlib.Nat.{pow-zero, pow-suc, le_of_eq}
@@ -204,8 +205,13 @@ members_written : (p : OptionalLegPositions) → ((l : Leg) → FewParts (leg_of
     members (member_for p l) (map (member_for p) ls) (parted 44 (map (λ k. member_text k (leg_of p k)) (l ∷ ls)))
 unfolding parted
 members_written p h l [] = member_written p l (h l)
-members_written p h l (k ∷ ls) =
-    (member_text l (leg_of p l), _, refl, member_written p l (h l), unblanked _ _ (headed 44 _ _ (unblanked _ _ (members_written p h k ls))))
+members_written p h l (k ∷ ls) = (
+  member_text l (leg_of p l),
+  _,
+  refl,
+  member_written p l (h l),
+  unblanked _ _ (headed 44 _ _ (unblanked _ _ (members_written p h k ls))),
+)
 
 pub written_derived : (p : OptionalLegPositions) → ((l : Leg) → FewParts (leg_of p l)) → Text (members_for p) (pose_text p)
 unfolding pose_text

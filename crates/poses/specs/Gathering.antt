@@ -1,5 +1,6 @@
 -- How ours gathers what the members say, member by member, in the structs of the code; nothing of the request.
-use Rattle.std.specs.Prelude.{ℕ, zero, suc, ◌-◌, Bool, true, false, not, ◌&&◌, ◌||◌, List, ◌++◌, length, take, drop, replicate, ◌==◌, nat_eq, nat_lt, slice_index_or, slice_set}
+use Rattle.std.specs.Prelude.{ℕ, zero, suc, ◌-◌, Bool, true, false, not, ◌&&◌, ◌||◌, List, ◌++◌, length, take, drop, replicate, ◌==◌}
+use Rattle.std.specs.Prelude.{nat_eq, nat_lt, slice_index_or, slice_set}
 use Rattle.std.specs.Float.{nan}
 use Rattle.numbers.specs.Told.{choose}
 use Rattle.numbers.specs.Door.{unless}

@@ -1,6 +1,7 @@
 -- How ours reads a text, by places; nothing of the request. (That it reads members exactly where the grammar derives the text with them is
 -- proved.) A place past the text's end is nowhere: no byte stands there, so that nothing is found from there on.
-use Rattle.std.specs.Prelude.{ℕ, zero, suc, ◌+◌, ◌-◌, ◌*◌, ◌^◌, Bool, true, false, ◌&&◌, List, [], ◌∷◌, length, take, drop, ◌==◌, nat_le, nat_lt, slice_index}
+use Rattle.std.specs.Prelude.{ℕ, zero, suc, ◌+◌, ◌-◌, ◌*◌, ◌^◌, Bool, true, false, ◌&&◌, List, [], ◌∷◌, length, take, drop, ◌==◌, nat_le}
+use Rattle.std.specs.Prelude.{nat_lt, slice_index}
 use Rattle.numbers.specs.Told.{choose}
 use Rattle.poses.specs.Json.{Number, Value, null, three, Member, is_blank, is_digit, is_escape, is_hex}
 

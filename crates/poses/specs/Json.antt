@@ -1,6 +1,7 @@
 -- Request K7: "an object of six names, each with a list of three numbers or null. Read and write such objects by RFC 8259". The grammar,
 -- rule by rule, as a relation between the bytes of a text and its members. A rule is a language: which texts it derives.
-use Rattle.std.specs.Prelude.{◌≡◌, ℕ, ◌+◌, ◌-◌, ◌*◌, ◌/◌, ◌%◌, ◌^◌, ◌≤◌, Bool, true, false, not, ◌&&◌, ◌||◌, T, List, [], ◌∷◌, ◌++◌, length, ◌==◌, nat_le, nat_lt}
+use Rattle.std.specs.Prelude.{◌≡◌, ℕ, ◌+◌, ◌-◌, ◌*◌, ◌/◌, ◌%◌, ◌^◌, ◌≤◌, Bool, true, false, not, ◌&&◌, ◌||◌, T, List, [], ◌∷◌, ◌++◌, length}
+use Rattle.std.specs.Prelude.{◌==◌, nat_le, nat_lt}
 use Rattle.numbers.specs.Told.{choose}
 
 -- ---- what a text says: a list of members, each a name, by its bytes between the quotes, and null or three numbers

@@ -9,7 +9,7 @@ use crate::{OptionalFoot, OptionalLegPositions, names, text, values};
 use numbers::door;
 
 // A member: the leg that its name says, 6 where it is no leg's; its value; and the place behind it and the blanks after it.
-#[derive(Drop)]
+#[derive(Clone, Copy)]
 pub struct MemberRead {
     pub leg: u32,
     pub slot: Slot,
@@ -18,7 +18,7 @@ pub struct MemberRead {
 
 // How far an object is read: the place, whether a member is due there, whether a number lay outside, whether a name was unknown or
 // there twice, and what each leg has, in row order.
-#[derive(Drop)]
+#[derive(Clone, Copy)]
 pub struct Progress {
     pub at: usize,
     pub due: bool,

@@ -7,14 +7,14 @@ use crate::{decimals, text};
 use legs::Point;
 
 // Digits behind a point: the number with them, in hundred-millionths, and how many there are.
-#[derive(Drop)]
+#[derive(Clone, Copy)]
 pub struct Run {
     pub parts: u64,
     pub taken: usize,
 }
 
 // A number, and the place behind it.
-#[derive(Drop)]
+#[derive(Clone, Copy)]
 pub struct NumberRead {
     pub minus: bool,
     pub parts: u64,
@@ -22,14 +22,14 @@ pub struct NumberRead {
 }
 
 // What a leg has: nothing yet (0), null (1), or a point (2).
-#[derive(Drop)]
+#[derive(Clone, Copy)]
 pub struct Slot {
     pub kind: u32,
     pub point: Point,
 }
 
 // A value, and the place behind it.
-#[derive(Drop)]
+#[derive(Clone, Copy)]
 pub struct ValueRead {
     pub slot: Slot,
     pub next: usize,

@@ -1,4 +1,6 @@
 // The square root of a number from 0 to 65536, correctly rounded.
+#![tactic(auto)]
+
 ghost use Rattle.std.specs.Prelude.{◌≡◌};
 ghost use Rattle.std.specs.Prelude.{Float};
 ghost use Rattle.numbers.specs.Answers.{told};
@@ -8,9 +10,9 @@ ghost use Rattle.roots.specs.Root.{RootOf};
 
 use numbers::{Answer, door, limits};
 
-pub mod unchecked;
 mod digits;
 mod seed;
+pub mod unchecked;
 
 // The f32 nearest to the root of x; of a zero that zero.
 pub fn square_root(x: f32) -> Answer

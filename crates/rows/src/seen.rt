@@ -7,7 +7,7 @@ use legs::{Feet, Foot, Planned, Point};
 use numbers::door;
 
 // The first six feet, +0 and standing where there are fewer, and whether all points so far may come in.
-#[derive(Drop)]
+#[derive(Clone, Copy)]
 pub struct Seen {
     pub row: [Foot; 6],
     pub finite: bool,

@@ -138,16 +138,20 @@ quarter_back_cos m w e h =
     near_by (sp_is w) (sm_is w) (cp_is m) (cm_is m) (back_near 1686629713 cp_l cm_l sp_l sm_l quarter_back_cos_test m w e h)
 
 pub quarter_on_sin : (m w : ℕ) → m ≡ quarter + w → w ≤ 851707689 → Near (cp w) (cm w) (sp m) (sm m)
-quarter_on_sin m w e h = near_by (cp_is w) (cm_is w) (sp_is m) (sm_is m) (on_near 1686629713 sp_l sm_l cp_l cm_l quarter_on_sin_test m w e h)
+quarter_on_sin m w e h =
+    near_by (cp_is w) (cm_is w) (sp_is m) (sm_is m) (on_near 1686629713 sp_l sm_l cp_l cm_l quarter_on_sin_test m w e h)
 
 pub quarter_on_cos : (m w : ℕ) → m ≡ quarter + w → w ≤ 851707689 → Near (sm w) (sp w) (cp m) (cm m)
-quarter_on_cos m w e h = near_by (sm_is w) (sp_is w) (cp_is m) (cm_is m) (on_near 1686629713 cp_l cm_l sm_l sp_l quarter_on_cos_test m w e h)
+quarter_on_cos m w e h =
+    near_by (sm_is w) (sp_is w) (cp_is m) (cm_is m) (on_near 1686629713 cp_l cm_l sm_l sp_l quarter_on_cos_test m w e h)
 
 pub half_back_sin : (m w : ℕ) → m + w ≡ half → w ≤ 851707689 → Near (sp w) (sm w) (sp m) (sm m)
-half_back_sin m w e h = near_by (sp_is w) (sm_is w) (sp_is m) (sm_is m) (back_near 3373259426 sp_l sm_l sp_l sm_l half_back_sin_test m w e h)
+half_back_sin m w e h =
+    near_by (sp_is w) (sm_is w) (sp_is m) (sm_is m) (back_near 3373259426 sp_l sm_l sp_l sm_l half_back_sin_test m w e h)
 
 pub half_back_cos : (m w : ℕ) → m + w ≡ half → w ≤ 851707689 → Near (cm w) (cp w) (cp m) (cm m)
-half_back_cos m w e h = near_by (cm_is w) (cp_is w) (cp_is m) (cm_is m) (back_near 3373259426 cp_l cm_l cm_l cp_l half_back_cos_test m w e h)
+half_back_cos m w e h =
+    near_by (cm_is w) (cp_is w) (cp_is m) (cm_is m) (back_near 3373259426 cp_l cm_l cm_l cp_l half_back_cos_test m w e h)
 
 pub half_on_sin : (m w : ℕ) → m ≡ half + w → w ≤ 851707689 → Near (sm w) (sp w) (sp m) (sm m)
 half_on_sin m w e h = near_by (sm_is w) (sp_is w) (sp_is m) (sm_is m) (on_near 3373259426 sp_l sm_l sm_l sp_l half_on_sin_test m w e h)

@@ -96,7 +96,8 @@ unfolding sin_p' sin_m' FD
 odd_low_test = tt
 
 odd_high_test : T (below rest_one
-    (add_p (scale (W4 rest_one * rest_one * rest_one) sin_m') (0 ∷ (FD * (W4 rest_one * line_factor)) ∷ 0 ∷ 0 ∷ 0 ∷ (FD * fifth_factor) ∷ []))
+    (add_p (scale (W4 rest_one * rest_one * rest_one) sin_m')
+    (0 ∷ (FD * (W4 rest_one * line_factor)) ∷ 0 ∷ 0 ∷ 0 ∷ (FD * fifth_factor) ∷ []))
     (add_p (scale (W4 rest_one * rest_one * rest_one) sin_p')
     (FD * (W4 rest_one * rest_one) ∷ 0 ∷ 0 ∷ (FD * (rest_one * rest_one * cube_factor)) ∷ [])))
 unfolding sin_p' sin_m' FD
@@ -370,10 +371,12 @@ odd_near r h =
     let down = horner_low rest_one (r * r) q i g (cube_factor - i) cube_factor fifth_factor F in
     let is = back g (part_le q cube_factor i (square_le r h)) in
     record {
-      low = odd_low rest_one FD (fsp r) (fsm r) r (r * u / rest_one) u g line_factor cube_factor fifth_factor (lit< tt) is h (div_low (r * u))
+      low = odd_low rest_one FD (fsp r) (fsm r) r (r * u / rest_one) u g line_factor cube_factor fifth_factor (lit< tt) is h
+          (div_low (r * u))
           (div_high (r * u)) up down
           (tested (W4 rest_one * rest_one * rest_one) r sin_m' _ sin_p' _ (fsm r) (fsp r) (sm_is r) (sp_is r) h odd_high_test);
-      high = odd_high rest_one FD (fsp r) (fsm r) r (r * u / rest_one) u g line_factor cube_factor fifth_factor (lit< tt) is h (div_low (r * u))
+      high = odd_high rest_one FD (fsp r) (fsm r) r (r * u / rest_one) u g line_factor cube_factor fifth_factor (lit< tt) is h
+          (div_low (r * u))
           (div_high (r * u)) up down
           (tested (W4 rest_one * rest_one * rest_one) r sin_p' _ sin_m' _ (fsp r) (fsm r) (sp_is r) (sm_is r) h odd_low_test);
     }

@@ -50,7 +50,8 @@ module _ (s : ℕ) (h : s ≤ 2 * table_one) where
 
     pub product_fits : SFits w64 (centred_entry *ℤ to_z w64 a)
     product_fits =
-        fits (centred_entry *ℤ to_z w64 a) (up s * a) (down s * a) product_of (omega (arith, up_most, room)) (omega (arith, down_most, room))
+        fits (centred_entry *ℤ to_z w64 a) (up s * a) (down s * a) product_of (omega (arith, up_most, room))
+        (omega (arith, down_most, room))
 
     product_read : Is (read (centred_entry *ℤ to_z w64 a)) (up s * a) (down s * a)
     product_read =

@@ -144,7 +144,8 @@ result D g h p m w pos lo hi c u v =
     mul_ge : (w : ℕ) → 37748737 ≤ w → 37748737 * D ≤ w * D
     mul_ge w e = mul-le-mul_right D e
 
-    least' : (w ≤ 4194303 → w * D ≤ 4194303 * D) → 8 * surplus * D + 2 ^ 27 * p ≤ 8 * (w * D) + 2 ^ 27 * m + 5 * D → surplus - result_one ≤ w
+    least' : (w ≤ 4194303 → w * D ≤ 4194303 * D) → 8 * surplus * D + 2 ^ 27 * p ≤ 8 * (w * D) + 2 ^ 27 * m + 5 * D →
+        surplus - result_one ≤ w
     least' f e = elim (here_or_on w (surplus - result_one)) [ inl l ↦ absurd (no (f (less w l))) | inr l ↦ l ]
       where
         less : (w : ℕ) → w < surplus - result_one → w ≤ 4194303

@@ -3,9 +3,9 @@
 ghost use Rattle.std.specs.Prelude.{◌≡◌, ℕ, ◌<◌, ◌≤◌, map, slice_index};
 ghost use Rattle.sines.specs.How.{sixteen, count, turn, entry_at};
 
-use crate::unchecked::Turn;
 use crate::table::Eighths;
-use crate::{unchecked, fixed};
+use crate::unchecked::Turn;
+use crate::{fixed, unchecked};
 
 // Each angle's count.
 fn counts(x: [f32; 18]) -> [u64; 18]

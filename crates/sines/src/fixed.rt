@@ -98,7 +98,7 @@ fn cosine_sum(s: u32, c: u32, a: u64, b: u64) -> u64
 }
 
 // A sine and a cosine in units of 2^-24, plus the surplus.
-#[derive(Drop)]
+#[derive(Clone, Copy)]
 pub struct Pair {
     pub sine: u64,
     pub cosine: u64,

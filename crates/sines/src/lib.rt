@@ -1,4 +1,6 @@
 // Sine and cosine of an f32, by whole numbers of at most 64 bits and one table of about 1 KB.
+#![tactic(auto)]
+
 ghost use Rattle.std.specs.Prelude.{◌≡◌};
 ghost use Rattle.std.specs.Prelude.{Float};
 ghost use Rattle.numbers.specs.Answers.{told};
@@ -8,10 +10,10 @@ ghost use Rattle.sines.specs.Bands.{SineOf, CosineOf};
 
 use numbers::{Answer, door};
 
-pub mod unchecked;
 pub mod eighteen;
 mod fixed;
 mod table;
+pub mod unchecked;
 
 // The sine of x radians, from -16 to 16.
 pub fn sine(x: f32) -> Answer

@@ -4,7 +4,7 @@
 ghost use Rattle.std.specs.Prelude.{◌≡◌, ◌<◌};
 ghost use Rattle.sines.specs.How.{sine_entry, cosine_entry};
 
-#[derive(Drop)]
+#[derive(Clone, Copy)]
 pub struct Eighths(pub u32, pub u32);
 
 // Sine and cosine of j eighths.

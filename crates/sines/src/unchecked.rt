@@ -35,7 +35,7 @@ pub fn cosine(x: f32) -> f32
 }
 
 // The sine and the cosine of one angle.
-#[derive(Drop)]
+#[derive(Clone, Copy)]
 pub struct Turn {
     pub sine: f32,
     pub cosine: f32,

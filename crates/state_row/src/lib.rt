@@ -1,5 +1,7 @@
 // A state in 506 bytes that a host lends, its feet in 72, its configuration in 164, and joints in 72 (request K10), all numbers lowest byte
 // first. docs/CONDUCTOR.md has the layout.
+#![tactic(auto)]
+
 ghost use Rattle.std.specs.Prelude.{◌≡◌, ◌+◌, ◌≤◌, true, [], ◌∷◌, ◌++◌, length, nat_le};
 ghost use Rattle.std.proofs.lemmas.List.Edits.{sets};
 ghost use Rattle.numbers.specs.Told.{mark};
@@ -10,7 +12,8 @@ ghost use Rattle.commands.specs.Command.{finite_command};
 ghost use Rattle.joints.specs.Configured.{finite_leg, finite_body, finite_configuration, finite_angles, finite_joints};
 ghost use Rattle.conductor.specs.States.{finite_state};
 ghost use Rattle.state_row.specs.Layout.{body_values, leg_values, configuration_values, point_values, floats_bytes, time_bytes};
-ghost use Rattle.state_row.specs.Layout.{state_bytes, joint_bytes, leg_of, body_of, configuration_of, flag, tripod_of, command_of, state_of};
+ghost use Rattle.state_row.specs.Layout.{state_bytes, joint_bytes, leg_of, body_of, configuration_of, flag, tripod_of, command_of};
+ghost use Rattle.state_row.specs.Layout.{state_of};
 ghost use Rattle.state_row.specs.Layout.{flags, is_state, standing_of};
 ghost use Rattle.state_row.specs.How.{points_in, last_put, plan_put, command_put};
 

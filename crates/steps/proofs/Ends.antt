@@ -145,7 +145,8 @@ pub even_ends : (s : EvenStepIterator) (elapsed : Time)
 unfolding next_even even_at
 even_ends s elapsed =
     let p = even_progress elapsed s.period in
-    stood (λ q. EvenStep (even_feet s q) (even_last s (even_feet s q))) NoEvenStep (λ q. even_some (even_feet s q) (even_last s (even_feet s q)))
+    stood (λ q. EvenStep (even_feet s q) (even_last s (even_feet s q))) NoEvenStep
+    (λ q. even_some (even_feet s q) (even_last s (even_feet s q)))
     (all_there s.last s.target)
     (shift_legs (points s.start) (points s.last) (points s.target) s.lift p)
     (one_moved_lem (points s.start) (points s.last) (points s.target) s.lift p)

@@ -128,7 +128,8 @@ pub lowered : ((even false up 500000000 ≡ went false down)
 unfolding next_even_told next_even even_at next_timed_told next_timed timed_at by_time next_step_told next_step lift_refusal step_refusal
     even_progress timed_progress step_progress shift_legs stepped mark_after step_lifted_leg same has_moved point_of
     max_horizontal_distance horizontal_distance horizontal_sum square_root elapsed_permitted period_permitted whole_number in_seconds
-    finite_point permitted_point finite foot_limit max_move direction over minus nought one half half_turn round of_bits add sub mul div lt le eq
+    finite_point permitted_point finite foot_limit max_move direction over minus nought one half half_turn round of_bits add sub mul div lt
+    le eq
 lowered = ((refl, refl, refl), (refl, refl, refl), (refl, refl, refl))
 
 -- of the last, one foot moved
@@ -149,7 +150,8 @@ pub on_the_way : (even false up 250000000 ≡ went false (stepped LRL up (points
     × (even true up 125000000 ≡ went true (three_lifted (swung (bits 0x3d0b_4395) (bits 0x3b83_126f))))
     × (timed up 250000000 ≡ given_none)
 unfolding next_even_told next_even even_at next_timed_told next_timed timed_at by_time lift_refusal
-    even_progress timed_progress shift_legs stepped mark_after step_lifted_leg same has_moved point_of max_horizontal_distance horizontal_distance
+    even_progress timed_progress shift_legs stepped mark_after step_lifted_leg same has_moved point_of max_horizontal_distance
+    horizontal_distance
     horizontal_sum square_root elapsed_permitted period_permitted whole_number in_seconds finite_point permitted_point finite
     foot_limit direction over minus nought one half half_turn round of_bits add sub mul div lt le eq
 on_the_way = (refl, refl, refl)

@@ -97,7 +97,8 @@ pub marks_told :
     × (even all here 500000000 ≡ 1 ∷ 0 ∷ 1 ∷ 1 ∷ 0 ∷ 0 ∷ 1 ∷ [])
     × (even all one_there 500000000 ≡ 1 ∷ 1 ∷ 1 ∷ 1 ∷ 0 ∷ 0 ∷ 1 ∷ [])
 unfolding next_even_told next_even even_at lift_refusal even_progress shift_legs stepped mark_after step_lifted_leg same has_moved point_of
-    elapsed_permitted period_permitted whole_number in_seconds finite_point permitted_point finite foot_limit direction over minus nought one
+    elapsed_permitted period_permitted whole_number in_seconds finite_point permitted_point finite foot_limit direction over minus nought
+    one
     half half_turn round of_bits add sub mul div lt le eq
 marks_told = (refl, refl, refl, refl, refl)
 
@@ -106,6 +107,7 @@ pub there_early :
     (going there none here (lift 0 true) 125000000 ≡ 1 ∷ 0 ∷ 0 ∷ 0 ∷ 0 ∷ 0 ∷ 0 ∷ [])
     × (going there all here (lift 0 true) 125000000 ≡ 1 ∷ 0 ∷ 1 ∷ 1 ∷ 0 ∷ 0 ∷ 1 ∷ [])
 unfolding next_even_told next_even even_at lift_refusal even_progress shift_legs stepped mark_after step_lifted_leg same has_moved point_of
-    elapsed_permitted period_permitted whole_number in_seconds finite_point permitted_point finite foot_limit direction over minus nought one
+    elapsed_permitted period_permitted whole_number in_seconds finite_point permitted_point finite foot_limit direction over minus nought
+    one
     half half_turn round of_bits add sub mul div lt le eq
 there_early = (refl, refl)

@@ -22,7 +22,8 @@ use Rattle.steps.specs.Next.{step_ended, timed_ended, step_lift, step_after, tim
 use Rattle.steps.specs.Next.{timed_at, even_at, next_step, next_timed, next_even}
 use Rattle.steps.specs.Answers.{told_next_step, told_next_timed, told_next_even}
 use Rattle.steps.specs.Entries.{next_step_told, next_timed_told, next_even_told}
-use Rattle.steps.specs.How.{course_of, finite_paced, permitted_paced, by_distance, sideways, way_of, reached, on_its_way, step_made, even_made}
+use Rattle.steps.specs.How.{course_of, finite_paced, permitted_paced, by_distance, sideways, way_of, reached, on_its_way, step_made}
+use Rattle.steps.specs.How.{even_made}
 use Rattle.steps.specs.How.{step_of, timed_of, even_of}
 use Rattle.steps.specs.declared.Lift.{Lift}
 use Rattle.steps.specs.declared.StepIterator.{StepIterator}

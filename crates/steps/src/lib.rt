@@ -1,5 +1,7 @@
 // Steps of six feet towards their targets: by distance, by time, and by time at even pace (source 000).
 // Lengths are metres, angles radians, times seconds and nanoseconds.
+#![tactic(auto)]
+
 ghost use Rattle.std.specs.Prelude.{◌≡◌};
 ghost use Rattle.numbers.specs.Answers.{told};
 ghost use Rattle.steps.specs.Answers.{told_step_iter, told_next_step, told_timed_iter, told_next_timed, told_even_iter, told_next_even};
@@ -14,7 +16,7 @@ use numbers::{Answer, door};
 pub mod unchecked;
 
 // How the feet are lifted. In aggressive mode they rise to full height at once.
-#[derive(Drop)]
+#[derive(Clone, Copy)]
 pub struct Lift {
     pub step_height: f32,
     pub grounded_leg_descent: f32,
@@ -23,7 +25,7 @@ pub struct Lift {
 }
 
 // A step by distance: max_move more at each turn.
-#[derive(Drop)]
+#[derive(Clone, Copy)]
 pub struct StepIterator {
     pub start: Feet,
     pub last: Feet,
@@ -35,7 +37,7 @@ pub struct StepIterator {
 }
 
 // A step by time, as the source paces it.
-#[derive(Drop)]
+#[derive(Clone, Copy)]
 pub struct TimedStepIterator {
     pub start: Feet,
     pub last: Feet,
@@ -45,7 +47,7 @@ pub struct TimedStepIterator {
 }
 
 // A step by time at even pace. It ends only where every foot is at its target.
-#[derive(Drop)]
+#[derive(Clone, Copy)]
 pub struct EvenStepIterator {
     pub start: Feet,
     pub last: Feet,
@@ -55,40 +57,40 @@ pub struct EvenStepIterator {
 }
 
 // What setting out answers: the state, or why not.
-#[derive(Drop)]
+#[derive(Clone, Copy)]
 pub enum StepIter {
     State(StepIterator),
     Refused(u32),
 }
 
-#[derive(Drop)]
+#[derive(Clone, Copy)]
 pub enum TimedIter {
     State(TimedStepIterator),
     Refused(u32),
 }
 
-#[derive(Drop)]
+#[derive(Clone, Copy)]
 pub enum EvenIter {
     State(EvenStepIterator),
     Refused(u32),
 }
 
 // What the next step answers: the feet now and the state after, that there is no step, or why not.
-#[derive(Drop)]
+#[derive(Clone, Copy)]
 pub enum NextStep {
     Step(Feet, StepIterator),
     NoStep,
     Refused(u32),
 }
 
-#[derive(Drop)]
+#[derive(Clone, Copy)]
 pub enum NextTimed {
     Step(Feet, TimedStepIterator),
     NoStep,
     Refused(u32),
 }
 
-#[derive(Drop)]
+#[derive(Clone, Copy)]
 pub enum NextEven {
     Step(Feet, EvenStepIterator),
     NoStep,
@@ -138,7 +140,9 @@ pub fn step_refused(s: StepIterator) -> u32
         0
     } else {
         door::outside(
-            unchecked::course_finite(c) & door::is_finite(s.max_move) & door::is_finite(s.step_height),
+            unchecked::course_finite(c)
+                & door::is_finite(s.max_move)
+                & door::is_finite(s.step_height),
         )
     }
 }

@@ -20,7 +20,7 @@ use moves::unchecked::PointsStep;
 use numbers::door;
 
 // From where a step goes, where the feet were last, and to where. Start and target are looked at for their points alone.
-#[derive(Drop)]
+#[derive(Clone, Copy)]
 pub struct Course {
     pub start: Points,
     pub last: Feet,
@@ -28,7 +28,7 @@ pub struct Course {
 }
 
 // What a step goes by: the max move of its turn, or how far it is by time, as the source paces it or evenly.
-#[derive(Drop)]
+#[derive(Clone, Copy)]
 pub enum Pace {
     Distance(f32),
     Timed(f32),
@@ -36,14 +36,14 @@ pub enum Pace {
 }
 
 // How far a step is, or that it leads nowhere.
-#[derive(Drop)]
+#[derive(Clone, Copy)]
 pub enum Way {
     At(f32),
     Nowhere,
 }
 
 // What a step makes: six feet, no step, or why not.
-#[derive(Drop)]
+#[derive(Clone, Copy)]
 pub enum Made {
     Feet(Feet),
     NoStep,
@@ -51,7 +51,7 @@ pub enum Made {
 }
 
 // Where in its step a leg is: how far along its way, and how far above its start.
-#[derive(Drop)]
+#[derive(Clone, Copy)]
 struct Stage {
     progress: f32,
     above: f32,

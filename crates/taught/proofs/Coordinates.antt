@@ -35,7 +35,8 @@ low_is_permitted b e =
     let size : mag x ≤ 4 * unity =
     le_trans (le_of_eq (mag_is x (sign_set b) (val (bare b)) value)) (val_le (bare b) 1082130432 small) in
     and_both (finite x) (permits foot_limit x) (is_true (finite x) number)
-    (is_true (permits foot_limit x) (permits_mag foot_limit (4 * unity) foot_ends x (finite_single x number (of_bits-fits binary32 b)) size))
+    (is_true (permits foot_limit x)
+    (permits_mag foot_limit (4 * unity) foot_ends x (finite_single x number (of_bits-fits binary32 b)) size))
 
 permitted_is_low : (b : ℕ) → (finite (of_bits binary32 b) && permits foot_limit (of_bits binary32 b)) ≡ true → low b ≡ true
 permitted_is_low b e =
@@ -69,7 +70,8 @@ point_low l at =
     let y = float_at l (at + 4) in
     let z = float_at l (at + 8) in
     (λ i. low_permitted (word_at l at) i && low_permitted (word_at l (at + 4)) i && low_permitted (word_at l (at + 8)) i)
-    ∙ ap (λ (t : Bool). t && (finite z && permits foot_limit z)) (regroup (finite x) (permits foot_limit x) (finite y) (permits foot_limit y))
+    ∙ ap (λ (t : Bool). t && (finite z && permits foot_limit z))
+    (regroup (finite x) (permits foot_limit x) (finite y) (permits foot_limit y))
     ∙ regroup (finite x && finite y) (permits foot_limit x && permits foot_limit y) (finite z) (permits foot_limit z)
 
 -- ---- eighteen words: six points, each behind those before it
@@ -105,7 +107,8 @@ words_low_lem l at =
     let three = more 6 l (at + 6) (F 6 && F 18) (P 6 && P 18) (F 30) (P 30) two (point_at_lem l at 6 24) in
     let four = more 9 l (at + 6) (F 6 && F 18 && F 30) (P 6 && P 18 && P 30) (F 42) (P 42) three (point_at_lem l at 6 36) in
     let five = more 12 l (at + 6) (F 6 && F 18 && F 30 && F 42) (P 6 && P 18 && P 30 && P 42) (F 54) (P 54) four (point_at_lem l at 6 48) in
-    more 15 l (at + 6) (F 6 && F 18 && F 30 && F 42 && F 54) (P 6 && P 18 && P 30 && P 42 && P 54) (F 66) (P 66) five (point_at_lem l at 6 60)
+    more 15 l (at + 6) (F 6 && F 18 && F 30 && F 42 && F 54) (P 6 && P 18 && P 30 && P 42 && P 54) (F 66) (P 66) five
+    (point_at_lem l at 6 60)
   where
     F : ℕ → Bool
     F k = finite_point (point_at l (at + k))

@@ -170,7 +170,8 @@ as_unbounded id f made ps s fits =
     by_test (not (there (look_up ps id)) && full (look_up ps))
     (λ no_room. by_test (eqb (put_number id f false) 0)
     (λ free. absurd (omega (arith, one_too_many id f made ps s no_room free, rw free at fits)))
-    (λ other. other_refusal (finite_feet f) (permitted_feet foot_limit f) (eqb id 0) other (not (there (look_up ps id)) && full (look_up ps))))
+    (λ other. other_refusal (finite_feet f) (permitted_feet foot_limit f) (eqb id 0) other
+    (not (there (look_up ps id)) && full (look_up ps))))
     (λ room. ap (put_number id f) room)
 
 same_unbounded : (c : Call) → Made c → (ps : List Place) → Sound 64 0 ps → length (list_of (unbounded c (look_up ps))) ≤ 64
@@ -222,7 +223,8 @@ later_above last (p ∷ ps) r (suc j) l =
     let above : p.id < get_or (ids_of ps) j 0 = later_above p.id ps r.2 j (le_of_suc-le-suc l) in
     omega (arith, above, r.0)
 
-ids_rise : (last : ℕ) (ps : List Place) → Rising last ps → (i j : ℕ) → i < j → j < length ps → get_or (ids_of ps) i 0 < get_or (ids_of ps) j 0
+ids_rise : (last : ℕ) (ps : List Place) → Rising last ps → (i j : ℕ) → i < j → j < length ps →
+    get_or (ids_of ps) i 0 < get_or (ids_of ps) j 0
 ids_rise last [] r i j before l = absurd (omega arith)
 ids_rise last (p ∷ ps) r i zero before l = absurd (omega arith)
 ids_rise last (p ∷ ps) r zero (suc j) before l = later_above p.id ps r.2 j (le_of_suc-le-suc l)
@@ -262,7 +264,8 @@ given_there k m e = (find_done k (there (m k)) (taken (find_refused k m) (given_
 listed_long : (ps : List Place) → Sound 64 0 ps → (listed_of (written 64 ps)).len ≡ length ps
 listed_long ps s = rw (taught_written ps s) (used_of_written ps s)
 
-listed_at : (ps : List Place) → Sound 64 0 ps → (i : ℕ) → i < length ps → get_or (listed_of (written 64 ps)).ids i 0 ≡ get_or (ids_of ps) i 0
+listed_at : (ps : List Place) → Sound 64 0 ps → (i : ℕ) → i < length ps →
+    get_or (listed_of (written 64 ps)).ids i 0 ≡ get_or (ids_of ps) i 0
 listed_at ps s i l =
     rw (taught_written ps s)
     (sym (get_or-take (length ps) (ids_from 64 (written 64 ps)) i 0 l) ∙ ap (λ (ids : List ℕ). get_or ids i 0) (ids_of_written ps s))
@@ -278,7 +281,8 @@ pub list_rises : (room : List ℕ) → Taught room → (i j : ℕ) → i < j →
     → get_or (listed_of room).ids i 0 < get_or (listed_of room).ids j 0
 list_rises room t =
     let good = taught_test room t in
-    let Rises : List ℕ → Type 0 = λ r. (i j : ℕ) → i < j → j < (listed_of r).len → get_or (listed_of r).ids i 0 < get_or (listed_of r).ids j 0 in
+    let Rises : List ℕ → Type 0 =
+    λ r. (i j : ℕ) → i < j → j < (listed_of r).len → get_or (listed_of r).ids i 0 < get_or (listed_of r).ids j 0 in
     subst Rises (sym (again room t.bytes good)) (rises_written (places_of room) (sound room t.bytes good))
 
 -- an id is listed exactly where get answers a pose

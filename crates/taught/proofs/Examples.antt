@@ -5,7 +5,8 @@ use lib.Ieee.{binary32, of_bits, to_bits, size, round, units, lt, le, eq}
 use Rattle.numbers.specs.Told.{Told, refused}
 use Rattle.numbers.specs.Door.{finite}
 use Rattle.numbers.specs.Limits.{foot_limit, over, minus}
-use Rattle.legs.specs.Legs.{Leg, left_front, right_front, left_middle, right_middle, left_rear, right_rear, feet, finite_point, permitted_point}
+use Rattle.legs.specs.Legs.{Leg, left_front, right_front, left_middle, right_middle, left_rear, right_rear, feet, finite_point}
+use Rattle.legs.specs.Legs.{permitted_point}
 use Rattle.legs.specs.Answers.{given_feet}
 use Rattle.legs.specs.declared.Feet.{Feet}
 use Rattle.packed.specs.Packed.{pair_at, word_at, float_at, point_at, feet_at}
@@ -25,7 +26,8 @@ is_first left_rear = false
 is_first right_rear = false
 
 abbrev pose : ℕ → ℕ → Feet
-pose x z = feet (λ l. record { point = record { x = of_bits binary32 x; y = of_bits binary32 0; z = of_bits binary32 z }; lifted = is_first l })
+pose x z = feet
+    (λ l. record { point = record { x = of_bits binary32 x; y = of_bits binary32 0; z = of_bits binary32 z }; lifted = is_first l })
 
 -- x is -0 and z the least float above 0; x is 4 and z is -4; NaN; 4.0000005
 abbrev small : Feet
@@ -48,7 +50,8 @@ abbrev two : List ℕ
 two = leaves room_after (fresh ∷ put 2 wide ∷ put 1 small ∷ []) (zeros 5120)
 
 pub in_order :
-    run (fresh ∷ list_ids ∷ put 2 wide ∷ put 1 small ∷ list_ids ∷ get 1 ∷ get 2 ∷ drop_id 1 ∷ list_ids ∷ get 1 ∷ put 2 small ∷ get 2 ∷ []) (zeros 5120)
+    run (fresh ∷ list_ids ∷ put 2 wide ∷ put 1 small ∷ list_ids ∷ get 1 ∷ get 2 ∷ drop_id 1 ∷ list_ids ∷ get 1 ∷ put 2 small ∷ get 2 ∷ [])
+    (zeros 5120)
     ≡ done
     ∷ given_ids 0 []
     ∷ done
@@ -62,20 +65,23 @@ pub in_order :
     ∷ done
     ∷ given_feet small
     ∷ []
-unfolding taught used used_from holds id_of pair_at marks_good pose_of feet_at point_at float_at word_at all_zero ids_from place_from place_for has
+unfolding taught used used_from holds id_of pair_at marks_good pose_of feet_at point_at float_at word_at all_zero ids_from place_from
+    place_for has
     finite_point permitted_point finite foot_limit over minus round units of_bits to_bits size lt le eq
 in_order = refl
 
 pub refusals_in_order :
     run (get 3 ∷ get 0 ∷ drop_id 3 ∷ drop_id 0 ∷ put 0 no_number ∷ put 0 beyond ∷ put 0 small ∷ []) two
     ≡ refused 12 ∷ refused 15 ∷ refused 12 ∷ refused 15 ∷ refused 1 ∷ refused 2 ∷ refused 15 ∷ []
-unfolding taught used used_from holds id_of pair_at marks_good pose_of feet_at point_at float_at word_at all_zero ids_from place_from place_for has
+unfolding taught used used_from holds id_of pair_at marks_good pose_of feet_at point_at float_at word_at all_zero ids_from place_from
+    place_for has
     finite_point permitted_point finite foot_limit over minus round units of_bits to_bits size lt le eq
 refusals_in_order = refl
 
 -- bytes 0 and 1, 80 and 81; the marks
 pub bytes_of_two : (take 8 two ≡ 1 ∷ 0 ∷ 1 ∷ 0 ∷ 0 ∷ 0 ∷ 0 ∷ 0 ∷ []) × (take 2 (drop 80 two) ≡ 2 ∷ 0 ∷ [])
-unfolding taught used used_from holds id_of pair_at marks_good pose_of feet_at point_at float_at word_at all_zero ids_from place_from place_for has
+unfolding taught used used_from holds id_of pair_at marks_good pose_of feet_at point_at float_at word_at all_zero ids_from place_from
+    place_for has
     finite_point permitted_point finite foot_limit over minus round units of_bits to_bits size lt le eq
 bytes_of_two = (refl, refl)
 
@@ -93,7 +99,8 @@ pub no_such_room :
     × (run calls (set two 4 2) ≡ all_refused)
     × (run (calls ++ (fresh ∷ [])) (zeros 5119) ≡ all_refused ++ (refused 17 ∷ []))
     × (run (calls ++ (fresh ∷ [])) (zeros 5121) ≡ all_refused ++ (refused 17 ∷ []))
-unfolding taught used used_from holds id_of pair_at marks_good pose_of feet_at point_at float_at word_at all_zero ids_from place_from place_for has
+unfolding taught used used_from holds id_of pair_at marks_good pose_of feet_at point_at float_at word_at all_zero ids_from place_from
+    place_for has
     finite_point permitted_point finite foot_limit over minus round units of_bits to_bits size lt le eq
 no_such_room = (refl, refl, refl, refl, refl)
 
@@ -105,6 +112,7 @@ filled (suc n) id = place_bytes id small ++ filled n (suc id)
 pub full_store :
     run (put 65 small ∷ put 0 small ∷ put 64 wide ∷ drop_id 7 ∷ put 65 small ∷ put 7 small ∷ []) (filled 64 1)
     ≡ refused 11 ∷ refused 15 ∷ done ∷ done ∷ done ∷ refused 11 ∷ []
-unfolding taught used used_from holds id_of pair_at marks_good pose_of feet_at point_at float_at word_at all_zero ids_from place_from place_for has
+unfolding taught used used_from holds id_of pair_at marks_good pose_of feet_at point_at float_at word_at all_zero ids_from place_from
+    place_for has
     finite_point permitted_point finite foot_limit over minus round units of_bits to_bits size lt le eq
 full_store = refl

@@ -40,7 +40,8 @@ module _ (s : Seen) (id : ℕ) (f : Feet) (l : Limit) (row : l ≡ foot_limit) (
       good_room s.good r (put_number id f (is_full s)) good
       (is
       ∙ ap (λ (t : Bool). choose t 2 1) finite
-      ∙ kept_out_of (finite_feet f) (permitted_feet foot_limit f) (either (when (eqb id 0) 15) (when (is_full s) 11)) (permitted_as ok e ∙ out))
+      ∙ kept_out_of (finite_feet f) (permitted_feet foot_limit f) (either (when (eqb id 0) 15) (when (is_full s) 11)) (permitted_as ok e
+      ∙ out))
 
   pub pose_taken : (ok : Bool) (r next : ℕ) → ok ≡ permitted_feet l f → ok ≡ true → r ≡ either (when (eqb id 0) 15) next
       → next ≡ when (is_full s) 11 → r ≡ either (unless s.good 17) (put_number id f (is_full s))

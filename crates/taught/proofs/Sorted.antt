@@ -200,7 +200,8 @@ module _ (n : ℕ)
         beyond : (p.id ≡ suc last → ⊥) → suc last < p.id
         beyond e = ⊎_elim (λ l. l) (λ l. absurd (e (le_antisymm l r.0))) (lt_or_le (suc last) p.id)
 
-pub list_from_places : (n last : ℕ) (ps : List Place) → Rising last ps → suc last + n ≡ 65536 → list_from n (suc last) (look_up ps) ≡ ids_of ps
+pub list_from_places : (n last : ℕ) (ps : List Place) → Rising last ps → suc last + n ≡ 65536 →
+    list_from n (suc last) (look_up ps) ≡ ids_of ps
 list_from_places zero last [] r all = refl
 list_from_places zero last (p ∷ ps) r all = absurd (omega (arith, r.0, r.1.small, all))
 list_from_places (suc n) last ps r all = one_number n (list_from_places n) last ps r all

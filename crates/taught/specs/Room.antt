@@ -1,6 +1,7 @@
 -- Request K11: the room that the host lends. 64 places of 80 bytes: an id in two bytes, six marks, eighteen floats. Used places stand
 -- first, their ids rise; every byte after them is 0. So a store has exactly one room.
-use Rattle.std.specs.Prelude.{◌≡◌, ℕ, zero, suc, ◌+◌, ◌-◌, ◌*◌, ◌<◌, ◌≤◌, Bool, true, not, ◌&&◌, T, List, [], ◌∷◌, ◌++◌, length, take, drop, replicate, ◌==◌, nat_le, nat_lt, slice_index}
+use Rattle.std.specs.Prelude.{◌≡◌, ℕ, zero, suc, ◌+◌, ◌-◌, ◌*◌, ◌<◌, ◌≤◌, Bool, true, not, ◌&&◌, T, List, [], ◌∷◌, ◌++◌, length, take, drop}
+use Rattle.std.specs.Prelude.{replicate, ◌==◌, nat_le, nat_lt, slice_index}
 use Rattle.std.proofs.Math.Seq.{slice}
 use Rattle.std.specs.Prelude.{Float}
 use Rattle.std.specs.Float.{binary32}

@@ -1,5 +1,7 @@
 // Taught poses (request K11): up to 64 poses under ids from 1 to 65535, kept in 5,120 bytes that the host lends.
 // docs/TAUGHT.md has the layout. Lengths are metres.
+#![tactic(auto)]
+
 ghost use Rattle.std.specs.Prelude.{◌≡◌};
 ghost use Rattle.legs.specs.Answers.{told as told_planned};
 ghost use Rattle.taught.specs.Answers.{told};
@@ -13,14 +15,14 @@ mod moves;
 mod refusals;
 
 // What a call that keeps or forgets answers: done, or why not.
-#[derive(Drop)]
+#[derive(Clone, Copy)]
 pub enum Kept {
     Done,
     Refused(u32),
 }
 
 // What a list answers: the refusal's number or 0, how many poses there are, and their ids in rising order; the places behind them hold 0.
-#[derive(Drop)]
+#[derive(Clone, Copy)]
 pub struct Listed {
     pub refused: u32,
     pub len: usize,

@@ -4,7 +4,7 @@ ghost use Rattle.taught.specs.Room.{holds, marks_good, used, all_zero, place_fro
 ghost use Rattle.taught.specs.How.{low, words_low, nothing, seen_of};
 
 // What the calls need of a room and an id; where the room is refused, nothing more.
-#[derive(Drop)]
+#[derive(Clone, Copy)]
 pub struct Seen {
     pub good: bool,
     pub used: usize,

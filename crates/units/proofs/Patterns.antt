@@ -66,7 +66,8 @@ to_bits_is : (s : Bool) (m : ℕ) (e : ℤ) → to_bits binary32 (fin s m e) ≡
 unfolding to_bits written mag
 to_bits_is s m e = refl
 
-to_bits_same : (x y : Float) (s : Bool) (a : ℕ) → HasValue x s a (2 ^ 149) → HasValue y s a (2 ^ 149) → to_bits binary32 x ≡ to_bits binary32 y
+to_bits_same : (x y : Float) (s : Bool) (a : ℕ) → HasValue x s a (2 ^ 149) → HasValue y s a (2 ^ 149) →
+    to_bits binary32 x ≡ to_bits binary32 y
 to_bits_same nan y s a h k = absurd h
 to_bits_same (inf i) y s a h k = absurd h
 to_bits_same (fin i m e) nan s a h k = absurd k
@@ -79,7 +80,8 @@ to_bits_same (fin i m e) (fin t n d) s a h k =
 
 pub one_value : (x y : Float) (s : Bool) (a : ℕ) → T (fits binary32 x) → T (fits binary32 y) → HasValue x s a (2 ^ 149)
     → HasValue y s a (2 ^ 149) → x ≡ y
-one_value x y s a p q h k = sym (of_bits-to_bits binary32 x p) ∙ ap (of_bits binary32) (to_bits_same x y s a h k) ∙ of_bits-to_bits binary32 y q
+one_value x y s a p q h k =
+    sym (of_bits-to_bits binary32 x p) ∙ ap (of_bits binary32) (to_bits_same x y s a h k) ∙ of_bits-to_bits binary32 y q
 
 -- ---- q * 2 ^ k units of either sign, and by its bits
 pub signed_units_fits : (s : Bool) (q k : ℕ) → q ≤ 2 ^ 24 → T (fits binary32 (units binary32 s q k))

@@ -21,7 +21,8 @@ use Rattle.walks.specs.Walk.{point_after, points_after, Walk, WalkFeet, larger, 
 use Rattle.legs.proofs.Laws.{each_of_every, every_of_each}
 
 -- ---- each foot's way is its own
-pub each_foot_after : (m : Float) (s t : Points) (k : ℕ) (l : Leg) → point (points_after m s t k) l ≡ point_after m (point s l) (point t l) k
+pub each_foot_after : (m : Float) (s t : Points) (k : ℕ) (l : Leg) →
+    point (points_after m s t k) l ≡ point_after m (point s l) (point t l) k
 unfolding points_after point_after
 each_foot_after m s t zero l = refl
 each_foot_after m s t (suc k) l =
@@ -124,7 +125,8 @@ module _ (g : Leg → ℕ) where
       (or_else (g left_front) (g right_front) right_front refl (left_front, refl)))))
 
 module _ (m : Float) (s t : Points) where
-  at_foot : (k : ℕ) (l : Leg) → same (point (points_after m s t k) l) (point t l) ≡ same (point_after m (point s l) (point t l) k) (point t l)
+  at_foot : (k : ℕ) (l : Leg) →
+      same (point (points_after m s t k) l) (point t l) ≡ same (point_after m (point s l) (point t l) k) (point t l)
   at_foot k l = ap (λ (p : Point). same p (point t l)) (each_foot_after m s t k l)
 
   -- six walks, with their counts, are the walk of six feet

@@ -28,7 +28,8 @@ module _ (m : Float) (s t : Point) where
   walk_turned_away = turned_away finite_point (permitted_point walk_foot) walk_move s t m
 
 module _ (m : Float) (s t : Feet) where
-  pub walk_feet_taken : (permitted_feet walk_foot s && permitted_feet walk_foot t && permits walk_move m) ≡ true → 0 ≡ walk_feet_refusal m s t
+  pub walk_feet_taken : (permitted_feet walk_foot s && permitted_feet walk_foot t && permits walk_move m) ≡ true →
+      0 ≡ walk_feet_refusal m s t
   unfolding walk_feet_refusal walk_foot finite
   walk_feet_taken = taken finite_feet (permitted_feet walk_foot) walk_move s t m (feet_finite walk_foot (refl, refl)) longest
 

@@ -64,7 +64,8 @@ module _ (m : Float) (s t : Point) where
     stays_z h k = stays_level (λ p. p.z) (λ p w. w.2) (λ i. (never_farther i).z) h k
 
   -- the step after k of them, where the walk has not arrived, and where it has
-  pub moves_on : (k : ℕ) → T (not (same (point_after m s t k) t)) → move_towards (point_after m s t k) t m ≡ Moved (point_after m s t (suc k))
+  pub moves_on : (k : ℕ) → T (not (same (point_after m s t k) t)) →
+      move_towards (point_after m s t k) t m ≡ Moved (point_after m s t (suc k))
   unfolding point_after point_of
   moves_on k h =
       let e = moves (point_after m s t k) t m (is_false (same (point_after m s t k) t) h) in e ∙ sym (ap (λ a. Moved (point_of a)) e)

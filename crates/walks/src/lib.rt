@@ -1,5 +1,7 @@
 // The walk that ends: how many steps of at most max_move take a point, or six feet, to the target (source 001).
 // Lengths are metres.
+#![tactic(auto)]
+
 ghost use Rattle.std.specs.Prelude.{◌≡◌};
 ghost use Rattle.legs.specs.Legs.{points};
 ghost use Rattle.walks.specs.Walk.{Walk, WalkFeet};
@@ -11,7 +13,7 @@ use numbers::door;
 pub mod unchecked;
 
 // What a walk answers: how many steps moved, or why not. It ends at the target.
-#[derive(Drop)]
+#[derive(Clone, Copy)]
 pub enum Walked {
     Count(u32),
     Refused(u32),

@@ -133,7 +133,9 @@ fn set_out(limit: f32, max_move: f32, start: Point, target: Point) -> Point
 fn slow_ones(max_move: f32, start: Points, target: Points) -> Points
     ensures { SlowOnes max_move start target result }
 {
-    if moves::unchecked::square_sum(start.left_front, target.left_front) < max_move * max_move * 64.0 {
+    if moves::unchecked::square_sum(start.left_front, target.left_front)
+        < max_move * max_move * 64.0
+    {
         return start;
     }
     let limit = moves::unchecked::longest_distance(start, target) * 0.84375;

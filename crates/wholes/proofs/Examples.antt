@@ -57,7 +57,8 @@ unfolding entry S alternating power factorial
 done = refl
 
 -- from end to end of the ranges, past the middle
-pub end_to_end : step_leg_told (point (negsuc 39999) (pos 40000) (pos 40000)) (point (pos 40000) (negsuc 39999) (pos 0)) (pos 1000) (pos 1536)
+pub end_to_end : step_leg_told (point (negsuc 39999) (pos 40000) (pos 40000)) (point (pos 40000) (negsuc 39999) (pos 0)) (pos 1000)
+    (pos 1536)
     ≡ given_point (point (pos 20000) (negsuc 19999) (pos 40707))
 unfolding entry S alternating power factorial
 end_to_end = refl

@@ -1,4 +1,6 @@
 // One leg's step in whole numbers of 0.1 mm (request K13), for a leg board that has no floats. Nothing here has one.
+#![tactic(auto)]
+
 ghost use Rattle.std.specs.Prelude.{◌≡◌, true, ◌≤◌, ◌<◌};
 ghost use Rattle.wholes.specs.Wholes.{in_range, is_coordinate, is_place, is_height, is_progress, used, sideways, upwards, whole_step};
 ghost use Rattle.wholes.specs.Answers.{told, step_leg_told};
@@ -6,7 +8,7 @@ ghost use Rattle.wholes.specs.Answers.{told, step_leg_told};
 mod table;
 
 // A point, each coordinate in units of 0.1 mm.
-#[derive(Drop)]
+#[derive(Clone, Copy)]
 pub struct WholePoint {
     pub x: i32,
     pub y: i32,
@@ -14,7 +16,7 @@ pub struct WholePoint {
 }
 
 // What a step answers: where the foot is, or why not.
-#[derive(Drop)]
+#[derive(Clone, Copy)]
 pub enum WholeStep {
     At(WholePoint),
     Refused(u32),

@@ -94,7 +94,8 @@ argument_part p h = half_way half_turn_value p h
 magnitude : (p : ℕ) → p ≤ 2048 → mag (argument p) ≡ argument_units p
 magnitude p h =
     let a = argument_part p h in
-    mag_parts (argument p) ∙ ap₂ (λ (i j : ℕ). i + j) (hi_is (argument p) (argument_units p) 0 a) (lo_is (argument p) (argument_units p) 0 a)
+    mag_parts (argument p)
+    ∙ ap₂ (λ (i j : ℕ). i + j) (hi_is (argument p) (argument_units p) 0 a) (lo_is (argument p) (argument_units p) 0 a)
     ∙ add-zero (argument_units p)
 
 module _ (p : ℕ) (h : p < 2048) where

@@ -1,0 +1,12 @@
+-- `legs::merge_with` meets its contract: refused, or what the core gives.
+use Rattle.legs.specs.Merge.{merge_told}
+use borrow.Author.Tests.{eq-eqb, ne_eqb}
+use Rattle.legs.proofs.merge_with.Goals as goal
+
+pub returns-then-n-eq0 : goal.returns-then-n-eq0
+unfolding merge_told
+returns-then-n-eq0 c = simp (c.merge_with.ensures, ← c.merge_refused-n.ensures, eq-eqb _ 0 c.if-n-eq0.true)
+
+pub returns-else-n-eq0 : goal.returns-else-n-eq0
+unfolding merge_told
+returns-else-n-eq0 c = simp (← c.merge_refused-n.ensures, ne_eqb _ 0 c.if-n-eq0.false)

@@ -1,0 +1,12 @@
+-- `legs::unchecked::standing` meets its contract, leg by leg.
+use Rattle.legs.proofs.unchecked.standing.Goals as goal
+
+pub returns : goal.returns
+returns c = simp (
+  c.foot_at-6.ensures,
+  c.foot_at-5.ensures,
+  c.foot_at-4.ensures,
+  c.foot_at-3.ensures,
+  c.foot_at-2.ensures,
+  c.foot_at.ensures,
+)

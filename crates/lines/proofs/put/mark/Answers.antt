@@ -1,0 +1,13 @@
+-- `lines::put::mark` meets its contract.
+use mathlib.Core.Path.{refl}
+use native.Mathlib.Numerals.{add-one, towards_suc}
+use native.Mathlib.Omega.{arith}
+use lib.ListN.{length-set}
+use borrow.Author.Rules.{rules}
+use Rattle.lines.proofs.put.mark.Goals as goal
+
+pub bounds-buf-at-2 : goal.bounds-buf-at-2
+bounds-buf-at-2 c = simp length-set (omega arith)
+
+pub returns : goal.returns
+returns c = record { place = refl; bytes = simp add-one }

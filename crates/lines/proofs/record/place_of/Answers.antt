@@ -1,0 +1,6 @@
+-- `lines::record::place_of` meets its contract.
+use borrow.Author.Rules.{rules}
+use Rattle.lines.proofs.record.place_of.Goals as goal
+
+pub returns : goal.returns
+returns c = simp (c.from_pattern.ensures, c.from_pattern-2.ensures, c.from_pattern-3.ensures)

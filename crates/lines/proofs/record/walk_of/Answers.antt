@@ -1,0 +1,6 @@
+-- `lines::record::walk_of` meets its contract.
+use borrow.Author.Rules.{rules}
+use Rattle.lines.proofs.record.walk_of.Goals as goal
+
+pub returns : goal.returns
+returns c = simp (c.place_of-from.ensures, c.place_of-to.ensures, c.from_pattern.ensures)

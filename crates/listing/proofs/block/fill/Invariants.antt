@@ -1,0 +1,18 @@
+-- `listing::block::fill` meets its contract. What is stored so far and what is left join to the block.
+use Rattle.std.specs.Prelude.{◌≡◌, ℕ, false, length}
+use mathlib.Core.Path.{refl, sym, ap, ◌∙◌}
+use Rattle.lines.specs.Lines.{has_room}
+use borrow.Author.Rules.{rules}
+use Rattle.listing.specs.Block.{text_of, lines_left, Part}
+use Rattle.listing.specs.declared.block.Rest.{Rest}
+use Rattle.listing.specs.declared.block.Filled.{Filled}
+use Rattle.listing.proofs.Blocks.{part_none, part_more, no_room, fewer_after, is_going, is_fit}
+use Rattle.listing.proofs.block.fill.Given as goal
+
+abbrev pub invariant-loop-r : goal.invariant-loop-r
+invariant-loop-r l =
+    (length l.buf ≡ length l.initial.buf) × Part l.initial.buf l.initial.at (text_of l.initial.r) l.at (text_of l.r) l.buf
+    × (has_room l.initial.buf l.initial.at ≡ false → (l.at ≡ l.initial.at) × (l.r ≡ l.initial.r))
+
+abbrev pub decreases-loop-r : goal.decreases-loop-r
+decreases-loop-r l = lines_left l.r

@@ -1,0 +1,32 @@
+-- `packed::put_marks` meets its contract.
+use native.Mathlib.Numerals.{towards_suc}
+use native.Mathlib.Omega.{arith}
+use lib.ListN.{length-set}
+use borrow.Author.Rules.{rules}
+use Rattle.packed.proofs.put_marks.Goals as goal
+
+pub bounds-s-at-2 : goal.bounds-s-at-2
+bounds-s-at-2 c = simp length-set (omega arith)
+
+pub bounds-s-at-3 : goal.bounds-s-at-3
+bounds-s-at-3 c = simp length-set (omega arith)
+
+pub bounds-s-at-4 : goal.bounds-s-at-4
+bounds-s-at-4 c = simp length-set (omega arith)
+
+pub bounds-s-at-5 : goal.bounds-s-at-5
+bounds-s-at-5 c = simp length-set (omega arith)
+
+pub bounds-s-at-6 : goal.bounds-s-at-6
+bounds-s-at-6 c = simp length-set (omega arith)
+
+pub returns : goal.returns
+returns c = simp (
+  towards_suc,
+  c.mark-6.ensures,
+  c.mark-5.ensures,
+  c.mark-4.ensures,
+  c.mark-3.ensures,
+  c.mark-2.ensures,
+  c.mark.ensures,
+)
