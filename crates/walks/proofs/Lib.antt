@@ -29,6 +29,7 @@ pub mod Rounds
 mod Strides
 mod Spans
 mod Reached
+mod Share
 mod Outlasted
 mod SlowOnes
 pub mod Examples

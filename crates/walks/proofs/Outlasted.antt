@@ -29,13 +29,10 @@ use Rattle.walks.specs.How.{share}
 use Rattle.walks.proofs.Aim.{Aim, OnWay}
 use Rattle.walks.proofs.Coordinate.{δ}
 use Rattle.walks.proofs.Steps.{test_false}
+use Rattle.walks.proofs.Share.{part}
 use Rattle.walks.proofs.Feet.{still_there}
 use Rattle.walks.proofs.Reached.{InReach, beyond, spans_way, distance_within, distance_value, distance_small}
 use Rattle.walks.proofs.Reached.{near_arrives, arrives_within, was_within, count_within}
-
--- the share, 27/32, in units
-part : ℕ
-part = 27 * 2 ^ 144
 
 share_value : HasValue share false part unity
 unfolding of_bits part

@@ -1,4 +1,5 @@
--- `arcs::table::entry` meets its contract: antt computes `arc_tangent k` and `lean k` at each arm, and what is none of the first 128 is 128.
+-- `arcs::table::entry` meets its contract: antt computes `arc_tangent k` and `lean k` at each arm, and what is none of the first 128 is
+-- 128.
 use Rattle.arcs.proofs.Tabled.{angled, held, held_last}
 use Rattle.arcs.proofs.table.entry.Goals as goal
 

@@ -1,5 +1,5 @@
--- `arcs::unchecked::inside_arc_cosine` meets its contract: up to 45/64 the digits of |q| and the angle beside a quarter turn, else the root and
--- the angle of (q, root).
+-- `arcs::unchecked::inside_arc_cosine` meets its contract: up to 45/64 the digits of |q| and the angle beside a quarter turn, else the
+-- root and the angle of (q, root).
 use mathlib.Core.Path.{sym, subst}
 use Rattle.std.specs.Prelude.{T}
 use lib.Ieee.{binary32, fits, to_bits}

@@ -1,5 +1,5 @@
--- `joints::unchecked::first_past` meets its contract: a leg that is short of its limit leaves the answer to those after it, and the first that
--- is past it answers.
+-- `joints::unchecked::first_past` meets its contract: a leg that is short of its limit leaves the answer to those after it, and the first
+-- that is past it answers.
 use Rattle.std.specs.Prelude.{◌≡◌, ℕ, List, drop}
 use mathlib.Core.Path.{sym, ◌∙◌}
 use Rattle.legs.specs.Legs.{row}

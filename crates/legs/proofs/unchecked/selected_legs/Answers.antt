@@ -1,4 +1,5 @@
--- `legs::unchecked::selected_legs` meets its contract: six places, filled from the last leg to the first, hold the legs that the mask names.
+-- `legs::unchecked::selected_legs` meets its contract: six places, filled from the last leg to the first, hold the legs that the mask
+-- names.
 use Rattle.legs.proofs.Filling.{filled}
 use Rattle.legs.proofs.unchecked.selected_legs.Goals as goal
 

@@ -1,5 +1,5 @@
--- `sines::unchecked::inside_sine` meets its contract. A permitted argument has a bit pattern of at most that of 16, and the whole-number sine
--- stays from -1 to 1.
+-- `sines::unchecked::inside_sine` meets its contract. A permitted argument has a bit pattern of at most that of 16, and the whole-number
+-- sine stays from -1 to 1.
 use borrow.Author.Rules.{rules}
 use mathlib.Core.Path.{sym, ap, ap₂, ◌∙◌, subst}
 use Rattle.std.specs.Prelude.{T}

@@ -1,5 +1,5 @@
--- `walks::unchecked::walk` meets its contract: the loop keeps `Going`, and S falls with every step that moves. A step is `move_towards`, by its
--- first test.
+-- `walks::unchecked::walk` meets its contract: the loop keeps `Going`, and S falls with every step that moves. A step is `move_towards`,
+-- by its first test.
 use Rattle.std.specs.Prelude.{◌≡◌, ℕ, ◌+◌, ◌<◌, ◌≤◌, Bool, false}
 use mathlib.Core.Path.{sym, ap, ◌∙◌}
 use native.Mathlib.Omega.{arith}

@@ -1,5 +1,5 @@
--- `walks::unchecked::walk_in_rounds` meets its contract: the loop keeps `Striding`, whose count of rounds is bounded. Where one foot is still
--- lifted after a round, not all had arrived before it.
+-- `walks::unchecked::walk_in_rounds` meets its contract: the loop keeps `Striding`, whose count of rounds is bounded. Where one foot is
+-- still lifted after a round, not all had arrived before it.
 use Rattle.std.specs.Prelude.{◌≡◌, ℕ, ◌+◌, ◌-◌, ◌<◌, Bool, true, false, not}
 use mathlib.Core.Path.{sym, ap, ◌∙◌, subst}
 use native.Mathlib.Omega.{arith}
