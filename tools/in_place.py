@@ -9,6 +9,9 @@ source:
 - a value that is built in one place and then moved to another is built in the other: nothing uses the first after the move, and nothing
   uses the second before it;
 - a value that is moved and then only read is read where it was, if nothing writes there after the move.
+The back end fills each place of the stack with zeros before anything names it. Where two places become one, the zeros of one do for both;
+where what was moved is read where it was, the zeros go, if nothing can read them.
+An enum is moved in parts: its letter, and what its widest case has. Such moves are made one first.
 A place is a part of a function's stack, or of what it was given or answers. One whose address is kept or lent is left alone, for others
 may write to it. At each call the places of what is given and of the answer must lie apart, else a copy is made for that call. So a callee
 has no way to what it was given but the one that it was given by, nor to its answer's place. Prints how many copies went and came.
@@ -18,7 +21,9 @@ import re
 import sys
 
 NAME = r"%[\w.]+"
-FUNCTION = re.compile(r'define (?:internal )?(?:[a-z]+ )*?(\w+) @("[^"]*"|[\w.$-]+)\((.*)\)(?: #\d+)? \{')
+# One value, or two.
+TYPE = r"(?:\w+|\{ \w+, \w+ \})"
+FUNCTION = re.compile(rf'define (?:internal )?(?:[a-z]+ )*?({TYPE}) @("[^"]*"|[\w.$-]+)\((.*)\)(?: #\d+)? \{{')
 LABEL = re.compile(r"([\w.]+):(?:\s.*)?")
 ALLOCA = re.compile(rf"  ({NAME}) = alloca (?:\[(\d+) x i8\]|(\w+)), align (\d+)")
 PLACE = re.compile(rf"  ({NAME}) = getelementptr (?:inbounds |nuw )*i8, ptr ({NAME}), i64 (-?\d+|{NAME})")
@@ -27,7 +32,11 @@ STORE = re.compile(rf"  store (\w+) (\S+), ptr ({NAME}), align .*")
 MOVE = re.compile(rf"  call void @llvm\.memmove\.p0\.p0\.i64\(ptr ({NAME}), ptr ({NAME}), i64 (\d+), i1 false\)")
 COPY = re.compile(rf"  call void @llvm\.memcpy\.p0\.p0\.i64\(ptr (?:align \d+ )?({NAME}), ptr (?:align \d+ )?@\S+, i64 (\d+), i1 false\)")
 FILL = re.compile(rf"  call void @llvm\.memset\.p0\.i64\(ptr ({NAME}), i8 \S+, i64 (\d+), i1 false\)")
-CALL = re.compile(r'(  (?:%[\w.]+ = )?call (?:[a-z]+ )*?\w+ @("[^"]*"|[\w.$-]+)\()(.*)\)(.*)')
+CALL = re.compile(rf'(  (?:%[\w.]+ = )?call (?:[a-z]+ )*?{TYPE} @("[^"]*"|[\w.$-]+)\()(.*)\)(.*)')
+# An enum's letter, as it is moved: read, widened by zeros, and written.
+LETTER = re.compile(rf"  ({NAME}) = load i8, ptr ({NAME}), align 1")
+WIDENED = re.compile(rf"  ({NAME}) = zext i8 ({NAME}) to (i\d+)")
+LETTERED = re.compile(rf"  store (i\d+) ({NAME}), ptr ({NAME}), align 1")
 ENDS = re.compile(r"  (br|switch|ret|unreachable)\b")
 NAMED = re.compile(NAME)
 TARGET = re.compile(r"label (%[\w.]+)")
@@ -43,6 +52,79 @@ def overlap(a, m, b, n):
     return None in (a, m, b, n) or a < b + n and b < a + m
 
 
+class Parts:
+    """The move in parts that begins at a line of a function: the lines of the one move that takes its place, and how many lines it has; none
+    and 1 where no such move begins there."""
+
+    def __init__(self, function, start):
+        self.function, self.start, self.one, self.count = function, start, [], 1
+        # what is named: the place that a name points to, by its root and byte, or an enum's letter, by where it was read
+        self.places, self.letters = {}, {}
+        self.to = self.source = self.begin = self.end = None
+        moves, i = 0, start
+        while i < len(function.lines) and (moved := self.takes(function.lines[i])) is not None:
+            i += 1
+            moves += moved
+            if moved and moves > 1 and self.alone(i):
+                self.one, self.count = self.whole(), i - start
+
+    def place(self, name):
+        return self.places.get(name, (name, 0))
+
+    def takes(self, line):
+        """None where a line is no part of the move, else whether it moves something."""
+        if (m := PLACE.fullmatch(line)) and m[3].isdigit():
+            root, at = self.place(m[2])
+            self.places[m[1]] = root, at + int(m[3])
+            return False
+        if m := LETTER.fullmatch(line):
+            self.letters[m[1]] = self.place(m[2])
+            return False
+        if (m := WIDENED.fullmatch(line)) and m[2] in self.letters:
+            self.letters[m[1]] = self.letters[m[2]]
+            return False
+        if (m := LETTERED.fullmatch(line)) and m[2] in self.letters:
+            return self.moves(self.place(m[3]), self.letters[m[2]], BYTES[m[1]]) or None
+        if m := MOVE.fullmatch(line):
+            return self.moves(self.place(m[1]), self.place(m[2]), int(m[3])) or None
+        return None
+
+    def moves(self, to, source, count):
+        """Whether so many bytes are the next of one move from place to place."""
+        if self.to is None:
+            if to[0] == source[0]:
+                return False
+            self.to, self.source, self.begin, self.end = to, source, 0, count
+            return True
+        at = to[1] - self.to[1]
+        if (to[0], source[0]) != (self.to[0], self.source[0]) or source[1] - self.source[1] != at:
+            return False
+        if at != self.end and not (self.end < at < self.end + 8 and at % 8 == 0 and self.fresh()):
+            return False
+        self.end = at + count
+        return True
+
+    def fresh(self):
+        """Whether nothing comes before the move that names where it goes, so that the bytes between its parts hold nothing there."""
+        function, (root, at) = self.function, self.to
+        is_own = root in function.stack or function.answers == "void" and root == function.given[0].split()[-1]
+        return at == 0 and is_own and not any(function.reaches(i, self.start) for i in function.naming(root) if not ALLOCA.fullmatch(function.lines[i]))
+
+    def alone(self, end):
+        """Whether no line but these names what they name."""
+        made = set(self.places) | set(self.letters)
+        others = self.function.lines[:self.start] + self.function.lines[end:]
+        return not any(made & set(NAMED.findall(line)) for line in others)
+
+    def whole(self):
+        lines, names = [], []
+        for end, (root, at) in (("to", self.to), ("from", self.source)):
+            names.append(root if at == 0 else f"%{end}.{self.start}")
+            if at:
+                lines.append(f"  {names[-1]} = getelementptr i8, ptr {root}, i64 {at}")
+        return lines + [f"  call void @llvm.memmove.p0.p0.i64(ptr {names[0]}, ptr {names[1]}, i64 {self.end}, i1 false)"]
+
+
 class Function:
     def __init__(self, head, lines):
         found = FUNCTION.fullmatch(head)
@@ -50,6 +132,7 @@ class Function:
         self.internal = head.startswith("define internal")
         self.given = [g.strip() for g in found[3].split(",") if g.strip()]
         self.hoist()
+        self.join()
         self.roles = {}
         if self.internal:
             for i, g in enumerate(self.given):
@@ -68,6 +151,16 @@ class Function:
         for line in stack:
             a = ALLOCA.fullmatch(line)
             self.stack[a[1]] = (int(a[2]) if a[2] else BYTES[a[3]], int(a[4]))
+
+    def join(self):
+        """Each move in parts becomes one move."""
+        self.flow()
+        lines, i = [], 0
+        while i < len(self.lines):
+            parts = Parts(self, i)
+            lines += parts.one or self.lines[i:i + 1]
+            i += parts.count
+        self.lines = lines
 
     def naming(self, name):
         return [i for i, line in enumerate(self.lines) if name in NAMED.findall(line)]
@@ -90,15 +183,7 @@ class Function:
 
     def look(self, functions):
         """Where each name points, what uses each place, and which places others may know."""
-        self.block, self.follows = [], collections.defaultdict(set)
-        here = ""
-        for line in self.lines:
-            label = LABEL.fullmatch(line)
-            here = label[1] if label else here
-            self.block.append(here)
-            if label is None:
-                self.follows[here] |= {t[1:] for t in TARGET.findall(line)}
-        self.close()
+        self.flow()
         self.at = {name: (name, 0) for name in self.stack}
         self.size = dict(self.stack)
         for i, role in self.roles.items():
@@ -109,6 +194,18 @@ class Function:
         self.uses, self.taken = collections.defaultdict(list), set()
         for i, line in enumerate(self.lines):
             self.note(i, line, functions)
+
+    def flow(self):
+        """The block of each line, and the blocks that each leads to."""
+        self.block, self.follows = [], collections.defaultdict(set)
+        here = ""
+        for line in self.lines:
+            label = LABEL.fullmatch(line)
+            here = label[1] if label else here
+            self.block.append(here)
+            if label is None:
+                self.follows[here] |= {t[1:] for t in TARGET.findall(line)}
+        self.close()
 
     def close(self):
         """The blocks that a block leads to, by one step or more, itself among them where it is in a circle."""
@@ -148,7 +245,8 @@ class Function:
             self.touch(i, m[2], "reads", int(m[3]))
             self.touch(i, m[1], "writes", int(m[3]))
         elif m := COPY.fullmatch(line) or FILL.fullmatch(line):
-            self.touch(i, m[1], "writes", int(m[2]))
+            is_first = FILL.fullmatch(line) and m[1] in self.at and self.first(i, line, self.at[m[1]][0])
+            self.touch(i, m[1], "zeros" if is_first else "writes", int(m[2]))
         elif (m := CALL.fullmatch(line)) and m[2] in functions:
             for k, word in enumerate(m[3].split(",") if m[3] else []):
                 name, role = word.split()[-1], functions[m[2]].roles.get(k, Role("other", 0, 1))
@@ -159,6 +257,27 @@ class Function:
         else:
             for name in NAMED.findall(line):
                 self.take(name)
+
+    def first(self, i, line, root):
+        """Whether a line fills a place with zeros, all of it, before anything uses it."""
+        m = FILL.fullmatch(line)
+        is_whole = self.at[m[1]] == (root, 0) and int(m[2]) == self.size[root][0]
+        return is_whole and ", i8 0, " in line and self.block[i] == self.block[0] and not self.uses[root] and root not in self.taken
+
+    def zeros(self, root):
+        """The lines of the first zeros of a place, last first."""
+        return [use.line for use in reversed(self.uses[root]) if use.does == "zeros"]
+
+    def only_after(self, i, j):
+        """Whether line j can be run only after line i."""
+        a, b = self.block[i], self.block[j]
+        seen, new = set(), [self.block[0]]
+        while new:
+            block = new.pop()
+            if block != a and block not in seen:
+                seen.add(block)
+                new += self.follows[block]
+        return i < j if a == b else b not in seen
 
     def take(self, name):
         if name in self.at:
@@ -173,6 +292,10 @@ class Function:
 
     # ---- copies that go
 
+    def leave_out(self, *lines):
+        for i in sorted(lines, reverse=True):
+            del self.lines[i]
+
     def instead(self, name, root, at):
         """A part of another place takes the part of one of the stack's."""
         self.lines = [line for line in self.lines if not line.startswith(f"  {name} = alloca ")]
@@ -185,7 +308,9 @@ class Function:
         to = MOVE.fullmatch(self.lines[i])[1]
         if not self.own(to) or sum(use.does == "writes" for use in self.uses[to]) != 1:
             return False
-        del self.lines[i]
+        if any(use.does == "reads" and not self.only_after(i, use.line) for use in self.uses[to]):
+            return False
+        self.leave_out(i, *self.zeros(to))
         self.instead(to, name, 0)
         return True
 
@@ -209,11 +334,11 @@ class Function:
             if to == source or not self.own(to) or not self.own(source):
                 continue
             if self.whole(source, source_at, count) and self.built_there(i, source, to, to_at, count):
-                del self.lines[i]
+                self.leave_out(i, *(self.zeros(source) if self.zeros(to) else []))
                 self.instead(source, to, to_at)
                 return True
             if self.whole(to, to_at, count) and self.read_there(i, to, source, source_at, count):
-                del self.lines[i]
+                self.leave_out(i, *self.zeros(to))
                 self.instead(to, source, source_at)
                 return True
         return False
@@ -223,18 +348,24 @@ class Function:
         return root in self.stack and at == 0 and self.stack[root][0] == count
 
     def built_there(self, i, source, to, at, count):
-        """Every use of the source comes before the move and none can come after it; no use of where it goes comes before."""
+        """Every use of the source comes before the move and none can come after it; no use of where it goes comes before, but its first zeros,
+        and those come before all but the first zeros of the source."""
         if self.is_given(to) or not self.fits(to, at, self.stack[source][1]):
+            return False
+        if any(use.does != "zeros" and self.reaches(use.line, zeros) for use in self.uses[source] for zeros in self.zeros(to)):
             return False
         if any(use.line != i and (not self.reaches(use.line, i) or self.reaches(i, use.line)) for use in self.uses[source]):
             return False
-        return not any(use.line != i and self.reaches(use.line, i) and overlap(use.at, use.bytes, at, count) for use in self.uses[to])
+        return not any(use.line != i and use.does != "zeros" and self.reaches(use.line, i) and overlap(use.at, use.bytes, at, count)
+                       for use in self.uses[to])
 
     def read_there(self, i, to, source, at, count):
-        """The move alone writes where it goes to, and after it nothing writes where it came from."""
+        """The move alone writes where it goes to, but for first zeros that nothing reads, and after it nothing writes where it came from."""
         if not self.fits(source, at, self.stack[to][1]) or any(use.does == "writes" and use.line != i for use in self.uses[to]):
             return False
-        return not any(use.does == "writes" and self.reaches(i, use.line) and overlap(use.at, use.bytes, at, count)
+        if self.zeros(to) and any(use.does == "reads" and not self.only_after(i, use.line) for use in self.uses[to]):
+            return False
+        return not any(use.does != "reads" and self.reaches(i, use.line) and overlap(use.at, use.bytes, at, count)
                        for use in self.uses[source])
 
     def is_given(self, root):
