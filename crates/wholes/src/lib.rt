@@ -38,7 +38,8 @@ fn step(start: WholePoint, target: WholePoint, height: u32, progress: u32) -> Wh
     requires { (is_place start ≡ true) × (is_place target ≡ true) × (height ≤ 1000) × (progress ≤ 2048) }
     ensures { result ≡ whole_step start target height progress }
 {
-    if progress == 2_048 {
+    let is_done = progress == 2_048;
+    if is_done {
         return target;
     }
     WholePoint {

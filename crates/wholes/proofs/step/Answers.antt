@@ -6,10 +6,10 @@ use Rattle.wholes.proofs.Door.{x_good, y_good, z_good}
 use Rattle.wholes.proofs.Steps.{still_coordinate, by_coordinates}
 use Rattle.wholes.proofs.step.Goals as goal
 
-pub returns-then-progress-eq2048 : goal.returns-then-progress-eq2048
-returns-then-progress-eq2048 c =
+pub returns-then-is_done : goal.returns-then-is_done
+returns-then-is_done c =
     let at = c.args in
-    where_true (eqb at.progress 2048) at.target _ (eq-eqb at.progress 2048 c.if-progress-eq2048.true)
+    where_true (eqb at.progress 2048) at.target _ (eq-eqb at.progress 2048 c.if-is_done.true)
 
 pub sideways-requires : goal.sideways-requires
 sideways-requires c = (
@@ -31,5 +31,5 @@ upwards-requires c = (still_coordinate c.args.start.z (z_good c.args.start c.req
 pub returns : goal.returns
 returns c =
     by_coordinates c.args.start c.args.target c.args.height c.args.progress c.requires.0 c.requires.1
-    c.requires.2 c.requires.3 _ _ _ c.if-progress-eq2048.false
+    c.requires.2 c.requires.3 _ _ _ c.if-is_done.false
     c.sideways.ensures c.sideways-2.ensures c.upwards.ensures
