@@ -118,7 +118,8 @@ def stacks(elf, entries):
             continue
         if here not in told:
             frames[here] += pushed(line)
-        to = re.search(r"\t(?:bl|blx|b|b\.n|b\.w)\t([0-9a-f]+) <([^>+]*)>", line)
+        # To whatever name, of which some have a `+`; only a function's first address counts below.
+        to = re.search(r"\t(?:bl|blx|b|b\.n|b\.w)\t([0-9a-f]+) <", line)
         if to and int(to.group(1), 16) != here:
             calls[here].add(int(to.group(1), 16))
         if re.search(r"\tblx?\tr\d", line):

@@ -7,7 +7,7 @@ use lib.Dec.{leb→le, le→leb}
 use lib.Ieee.{Float, binary32, units, fits, of_bits, to_bits}
 use lib.Ieee.Exact.{HasValue}
 use lib.Ieee.Fits.{and_i, and_l, and_r}
-use Rattle.numbers.specs.Door.{finite, permits, unless, either}
+use Rattle.numbers.specs.Door.{finite, permits}
 use Rattle.numbers.specs.Limits.{arc_cosine_argument}
 use Rattle.numbers.specs.Told.{choose}
 use Rattle.units.specs.Units.{mag, unity}
@@ -23,7 +23,7 @@ use Rattle.arcs.proofs.SignBits.{sign_bits}
 use Rattle.arcs.proofs.Ratios.{smaller_le, larger_x, larger_y}
 use Rattle.arcs.proofs.ArcBand.{permitted_finite, at_most_one, side_finite, few_digits}
 use Rattle.arcs.proofs.Atan2Band.{zero_angle}
-use Rattle.arcs.proofs.Bands.{chosen, arc_cosine_band, atan2_band}
+use Rattle.arcs.proofs.Bands.{chosen, inside_is, finite_atan2_is, arc_cosine_band, atan2_band}
 
 -- ---- atan2: two sides, sorted
 sorted_of : (u v : Float) (m n : ℕ) → HasValue u false m unity → HasValue v false n unity → m ≤ n → 0 < n → Sorted u v
@@ -74,17 +74,18 @@ module _ (y x : Float) (fy : T (fits binary32 y)) (fx : T (fits binary32 x)) (h 
   abbrev by : ℕ
   by = to_bits binary32 y
 
-  of_bits_lem : finite_atan2 y x ≡ in_radians (sign_set by) (angle_of (sign_set bx) (val (bare bx)) (val (bare by)))
+  of_bits_lem : atan2 y x ≡ in_radians (sign_set by) (angle_of (sign_set bx) (val (bare bx)) (val (bare by)))
   unfolding finite_atan2
   of_bits_lem =
       let hy = and_l (finite y) (finite x) h in
       let hx = and_r (finite y) (finite x) h in
-      ap₂ (λ (m n : ℕ). in_radians (sign_bit y) (angle_of (sign_bit x) m n)) (mag_bare x fx hx) (mag_bare y fy hy)
+      finite_atan2_is y x h
+      ∙ ap₂ (λ (m n : ℕ). in_radians (sign_bit y) (angle_of (sign_bit x) m n)) (mag_bare x fx hx) (mag_bare y fy hy)
       ∙ ap₂ (λ (s t : Bool). in_radians s (angle_of t (val (bare bx)) (val (bare by)))) (sign_bits y fy hy) (sign_bits x fx hx)
 
   pub atan2_is : (u v w a : ℕ) (r : Float) → u ≡ smaller (bare bx) (bare by) → v ≡ larger (bare bx) (bare by) → u < 2139095040
       → v < 2139095040 → w ≡ ratio (mag (of_bits binary32 u)) (mag (of_bits binary32 v))
-      → a ≡ angle (ltb (bare bx) (bare by)) (sign_set bx) w → r ≡ in_radians (sign_set by) a → r ≡ finite_atan2 y x
+      → a ≡ angle (ltb (bare bx) (bare by)) (sign_set bx) w → r ≡ in_radians (sign_set by) a → r ≡ atan2 y x
   atan2_is u v w a r eu ev lu lv ew ea er =
       er
       ∙ ap (in_radians (sign_set by))
@@ -93,7 +94,7 @@ module _ (y x : Float) (fy : T (fits binary32 y)) (fx : T (fits binary32 x)) (h 
       ∙ sym of_bits_lem
 
   pub atan2_zero : (v a : ℕ) (r : Float) → v ≡ larger (bare bx) (bare by) → v ≡ 0 → a ≡ cond (sign_set bx) 13176795 0
-      → r ≡ in_radians (sign_set by) a → r ≡ finite_atan2 y x
+      → r ≡ in_radians (sign_set by) a → r ≡ atan2 y x
   atan2_zero v a r ev z ea er =
       let i : bare bx ≡ 0 = none (bare bx) (larger_x (bare bx) (bare by)) in
       let j : bare by ≡ 0 = none (bare by) (larger_y (bare bx) (bare by)) in
@@ -142,17 +143,19 @@ module _ (q : Float) (f : T (fits binary32 q)) (h : T (permits arc_cosine_argume
   short = in_radians false (upright (sign_bit q) (digits (mag q)))
 
   pub upright_is : (w a : ℕ) (r : Float) → i ≤ 1060372480 → w ≡ digits (mag p) → a ≡ upright (sign_set (to_bits binary32 q)) w
-      → r ≡ in_radians false a → r ≡ inside_arc_cosine q
+      → r ≡ in_radians false a → r ≡ arc_cosine q
   unfolding inside_arc_cosine
   upright_is w a r l ew ea er =
       er ∙ ap (in_radians false) (ea ∙ ap₂ upright (sym (sign_bits q f (permitted_finite q h))) (ew ∙ ap digits pattern_mag))
       ∙ sym (chosen (leb (mag q) upright_most) short (finite_atan2 (side q) q) (le→leb (mag q) upright_most (pattern_few l)))
+      ∙ sym (inside_is q h)
 
-  pub root_is : (s r : Float) → 1060372480 < i → s ≡ side q → r ≡ finite_atan2 s q → r ≡ inside_arc_cosine q
+  pub root_is : (s r : Float) → 1060372480 < i → s ≡ side q → r ≡ atan2 s q → r ≡ arc_cosine q
   unfolding inside_arc_cosine
   root_is s r l e k =
-      k ∙ ap (λ (z : Float). finite_atan2 z q) e
+      k ∙ finite_atan2_is s q (root_finite q s f h e) ∙ ap (λ (z : Float). finite_atan2 z q) e
       ∙ sym (not_chosen (leb (mag q) upright_most) short (finite_atan2 (side q) q) (λ t. no l (back (leb→le (mag q) upright_most t))))
+      ∙ sym (inside_is q h)
     where
       no : 1060372480 < i → i ≤ 1060372480 → ⊥
       no a b = omega arith
@@ -187,19 +190,3 @@ arc_cosine_both q r f e = (e, λ h. subst (λ (a : Float). ArcCosineOf q a) (sym
 pub atan2_both : (y x r : Float) → T (fits binary32 y) → T (fits binary32 x) → r ≡ atan2 y x
     → (r ≡ atan2 y x) × (T (finite y && finite x) → Atan2Of y x r)
 atan2_both y x r fy fx e = (e, λ h. subst (λ (t : Float). Atan2Of y x t) (sym e) (atan2_band y x fy fx h))
-
--- ---- the entries: what is not refused passed both tests
-pub taken : (a b : Bool) → either (unless a 1) (unless b 2) ≡ 0 → T a × T b
-taken true true e = (tt, tt)
-taken true false e = absurd (never e)
-  where
-    never : ◌≡◌ {A = ℕ} 2 0 → ⊥
-    never g = omega arith
-taken false true e = absurd (never e)
-  where
-    never : ◌≡◌ {A = ℕ} 1 0 → ⊥
-    never g = omega arith
-taken false false e = absurd (never e)
-  where
-    never : ◌≡◌ {A = ℕ} 1 0 → ⊥
-    never g = omega arith

@@ -3,10 +3,8 @@
 -- 147573952589676412928, 2 ^ 91 2475880078570760549798248448; 61572651155456 is 896 * 2 ^ 36.
 use Rattle.std.specs.Prelude.{◌≡◌, ℕ, zero, suc, ◌+◌, ◌-◌, ◌*◌, ◌/◌, ◌%◌, ◌<◌, ◌≤◌}
 use mathlib.Core.Path.{sym, ap, ap₂, ◌∙◌, subst}
-use mathlib.Core.Logic.{inl, inr}
 use native.Mathlib.Nat.{mul-zero, mul-le-mul, mul-le-mul_left, mul-le-mul_right, le_of_mul-le-mul_right, div-mul-le_self, lt-div-mul-add}
 use native.Mathlib.Omega.{arith}
-use Rattle.series.proofs.Order.{here_or_on}
 use Rattle.series.proofs.Grid.{sp, sm, D}
 use Rattle.arc_rows.specs.ArcSine.{angle_at, slope_at, bend_at}
 use Rattle.arc_rows.proofs.SineRows.{at, cosine_of, sine_of, sine_ahead, row_past, row_before, row_sized, first_row, first_cosine}

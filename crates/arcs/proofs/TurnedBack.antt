@@ -1,5 +1,5 @@
 -- A vector (v, u) turned back by the angle of (128, k) is (x, y); a and b are 2 ^ 30 times C and S of that angle, over D. Assumes nothing.
-use Rattle.std.specs.Prelude.{◌≡◌, ℕ, ◌+◌, ◌-◌, ◌*◌, ◌≤◌}
+use Rattle.std.specs.Prelude.{◌≡◌, ℕ, ◌+◌, ◌*◌, ◌≤◌}
 use mathlib.Core.Path.{ap}
 use native.Mathlib.Nat.{mul-le-mul_left, mul-le-mul_right, add-mul}
 use native.Mathlib.Omega.{arith}

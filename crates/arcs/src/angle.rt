@@ -5,12 +5,14 @@ ghost use Rattle.arcs.specs.How as how;
 
 use crate::table;
 
-// The first where the flag stands, else the second.
+/// The first where the flag stands, else the second.
 pub fn chosen(flag: bool, a: u32, b: u32) -> u32
     ensures { result ≡ (if flag then a else b) }
 {
     if flag { a } else { b }
 }
+
+// Kept: w is at most 2^25 in three functions in a row. A type for that would wrap and unwrap one number at each call.
 
 // The angle of (2^25, w), in units of 2^-30: the table's angle of (128, k), and two terms of the arc
 // tangent's series there. A row is 2^18 wide; the terms lose 26 and 37 digits.
@@ -35,8 +37,8 @@ fn sharp(steep: bool, w: u32) -> u32
     chosen(steep, 1686629713 - t, t)
 }
 
-// That, or a half turn less it where left, rounded to units of 2^-22. A half turn is 3373259426 units
-// of 2^-30; P is 13176795 of 2^-22.
+/// That, or a half turn less it where left, rounded to units of 2^-22. A half turn is 3373259426 units
+/// of 2^-30; P is 13176795 of 2^-22.
 pub fn angle(steep: bool, left: bool, w: u32) -> u32
     requires { w ≤ 2 ^ 25 }
     ensures { (result ≡ how.angle steep left w) × (result ≤ 13176795) }

@@ -17,8 +17,8 @@ fn arc_sine(w: u32) -> u32
     row.0 + (d * rate / 0x4_0000) as u32
 }
 
-// The angle whose cosine is w units of 2^-25, or the negative of that where left, rounded to units of
-// 2^-22. A quarter turn is 1686629713 units of 2^-30.
+/// The angle whose cosine is w units of 2^-25, or the negative of that where left, rounded to units of
+/// 2^-22. A quarter turn is 1686629713 units of 2^-30.
 pub fn upright(left: bool, w: u32) -> u32
     requires { w < 23855104 }
     ensures { (result ≡ how.upright left w) × (result ≤ 13176795) }

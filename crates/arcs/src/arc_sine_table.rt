@@ -5,9 +5,9 @@ ghost use Rattle.arc_rows.specs.ArcSine.{angle_at, slope_at, bend_at};
 #[derive(Clone, Copy)]
 pub struct Row(pub u32, pub u32, pub u16);
 
-// For k from 0 to 90: the arc sine at k / 128 in units of 2^-30, how fast it grows there in units of
-// 2^-23, and how its growth bends in units of 2^-16. The arms are made by tools/arc_sine_table.py; the
-// proof holds each to the lists of `arc_rows`.
+/// For k from 0 to 90: the arc sine at k / 128 in units of 2^-30, how fast it grows there in units of
+/// 2^-23, and how its growth bends in units of 2^-16. The arms are made by tools/arc_sine_table.py; the
+/// proof holds each to the lists of `arc_rows`.
 pub fn entry(k: u32) -> Row
     requires { k < 91 }
     ensures { (result.0 ≡ angle_at k) × (result.1 ≡ slope_at k) × (result.2 ≡ bend_at k) }

@@ -4,14 +4,13 @@
 // by a table of its own, without root and division.
 #![tactic(auto)]
 
-ghost use Rattle.std.specs.Prelude.{◌≡◌};
-ghost use Rattle.std.specs.Prelude.{Float};
+ghost use Rattle.std.specs.Prelude.{◌≡◌, IfOk};
 ghost use Rattle.numbers.specs.Answers.{told};
-ghost use Rattle.numbers.specs.declared.Answer.TheVariants.{Value};
+ghost use Rattle.numbers.specs.Refusals.{number_or_0};
 ghost use Rattle.arcs.specs.Entries.{arc_cosine_told, atan2_refusal, atan2_told};
 ghost use Rattle.arcs.specs.Wedges.{ArcCosineOf, Atan2Of};
 
-use numbers::{Answer, door, limits};
+use numbers::{Refusal, door, limits};
 
 mod angle;
 mod arc_sine;
@@ -20,40 +19,33 @@ mod digits;
 mod table;
 pub mod unchecked;
 
-// Why (y, x) is turned away: 1 if either is a NaN or an infinity, 2 if either is outside -128 to 128.
-fn atan2_refused(y: f32, x: f32) -> u32
-    ensures { result ≡ atan2_refusal y x }
+/// Why (y, x) is turned away: 1 if either is a NaN or an infinity, 2 if either is outside -128 to 128.
+fn admit_atan2(y: f32, x: f32) -> Result<(), Refusal>
+    ensures { number_or_0 result ≡ atan2_refusal y x }
 {
     let y_permitted = door::is_permitted(limits::atan2_argument(), y);
     let x_permitted = door::is_permitted(limits::atan2_argument(), x);
     if y_permitted & x_permitted {
-        0
+        Ok(())
     } else {
-        door::outside(door::is_finite(y) & door::is_finite(x))
+        Err(door::outside(door::is_finite(y) & door::is_finite(x)))
     }
 }
 
-// The angle from 0 to P radians whose cosine is q, for q from -1 to 1.
-pub fn arc_cosine(q: f32) -> Answer
+/// The angle from 0 to P radians whose cosine is q, for q from -1 to 1.
+pub fn arc_cosine(q: f32) -> Result<f32, Refusal>
     ensures exact { told result ≡ arc_cosine_told q }
-    ensures band { (a : Float) → result ≡ Value a → ArcCosineOf q a }
+    ensures band { IfOk result (ArcCosineOf q) }
 {
-    if door::is_permitted(limits::arc_cosine_argument(), q) {
-        Answer::Value(unchecked::inside_arc_cosine(q))
-    } else {
-        Answer::Refused(door::outside(door::is_finite(q)))
-    }
+    Ok(unchecked::inside_arc_cosine(limits::arc_cosine_argument().admit(q)?))
 }
 
-// The angle of the vector (x, y) from -P to P radians, with y's sign, for x and y from -128 to 128.
-pub fn atan2(y: f32, x: f32) -> Answer
+/// The angle of the vector (x, y) from -P to P radians, with y's sign, for x and y from -128 to 128.
+#[tactic(auto, using(numbers::proofs::Admitted::entry))]
+pub fn atan2(y: f32, x: f32) -> Result<f32, Refusal>
     ensures exact { told result ≡ atan2_told y x }
-    ensures band { (t : Float) → result ≡ Value t → Atan2Of y x t }
+    ensures band { IfOk result (Atan2Of y x) }
 {
-    let n = atan2_refused(y, x);
-    if n == 0 {
-        Answer::Value(unchecked::finite_atan2(y, x))
-    } else {
-        Answer::Refused(n)
-    }
+    admit_atan2(y, x)?;
+    Ok(unchecked::finite_atan2(y, x))
 }

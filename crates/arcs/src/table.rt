@@ -7,9 +7,9 @@ ghost use Rattle.arcs.specs.How.{lean};
 #[derive(Clone, Copy)]
 pub struct Row(pub u32, pub u32);
 
-// For k from 0 to 128: 2^30 times the angle of the direction (128, k), to the nearest whole number,
-// and 2^45 over 128² + k², by which the angle grows there. The arms are made by tools/arc_table.py;
-// the proof holds each to `arc_tangent k` and `lean k`.
+/// For k from 0 to 128: 2^30 times the angle of the direction (128, k), to the nearest whole number,
+/// and 2^45 over 128² + k², by which the angle grows there. The arms are made by tools/arc_table.py;
+/// the proof holds each to `arc_tangent k` and `lean k`.
 pub fn entry(k: u32) -> Row
     requires { k < 129 }
     ensures { (result.0 ≡ arc_tangent k) × (result.0 ≤ 843314857) × (result.1 ≡ lean k) × (result.1 ≤ 2147483648) }

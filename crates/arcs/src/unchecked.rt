@@ -3,13 +3,13 @@
 ghost use Rattle.std.specs.Prelude.{◌≡◌, ◌&&◌, T};
 ghost use Rattle.numbers.specs.Door.{finite, permits};
 ghost use Rattle.numbers.specs.Limits.{arc_cosine_argument};
-ghost use Rattle.arcs.specs.How.{arc_cosine, atan2, inside_arc_cosine, finite_atan2};
+ghost use Rattle.arcs.specs.How.{arc_cosine, atan2};
 ghost use Rattle.arcs.specs.Wedges.{ArcCosineOf, Atan2Of};
 
 use crate::{angle, arc_sine, digits};
 use numbers::{door, limits};
 
-// The angle whose cosine is q, in radians.
+/// The angle whose cosine is q, in radians.
 pub fn arc_cosine(q: f32) -> f32
     ensures exact { result ≡ arc_cosine q }
     ensures band { T (permits arc_cosine_argument q) → ArcCosineOf q result }
@@ -21,7 +21,7 @@ pub fn arc_cosine(q: f32) -> f32
     }
 }
 
-// The angle of the vector (x, y), in radians.
+/// The angle of the vector (x, y), in radians.
 pub fn atan2(y: f32, x: f32) -> f32
     ensures exact { result ≡ atan2 y x }
     ensures band { T (finite y && finite x) → Atan2Of y x result }
@@ -37,7 +37,7 @@ pub fn atan2(y: f32, x: f32) -> f32
 // bit is 2^31.
 pub(crate) fn inside_arc_cosine(q: f32) -> f32
     requires { T (permits arc_cosine_argument q) }
-    ensures { result ≡ inside_arc_cosine q }
+    ensures { result ≡ arc_cosine q }
 {
     let b = f32::to_bits(q);
     let i = b % 0x8000_0000;
@@ -52,7 +52,7 @@ pub(crate) fn inside_arc_cosine(q: f32) -> f32
 // sign bit is 2^31.
 pub(crate) fn finite_atan2(y: f32, x: f32) -> f32
     requires { T (finite y && finite x) }
-    ensures { result ≡ finite_atan2 y x }
+    ensures { result ≡ atan2 y x }
 {
     let a = f32::to_bits(x);
     let b = f32::to_bits(y);

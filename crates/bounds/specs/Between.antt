@@ -5,7 +5,7 @@ use Rattle.std.specs.Float.Ieee.{fits}
 use Rattle.units.specs.Units.{unity, Units, hi, lo}
 use Rattle.legs.specs.Legs.{Leg, foot}
 use Rattle.legs.specs.declared.Point.{Point}
-use Rattle.legs.specs.declared.Feet.{Feet}
+use Rattle.legs.specs.Legs.{Feet}
 
 -- x is an f32 from -n to p
 pub record Between (n p : ℕ) (x : Float) : Type 0 where

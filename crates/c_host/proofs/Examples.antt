@@ -10,11 +10,11 @@ use Rattle.legs.specs.Legs.{Leg, left_front, right_front, left_middle, right_mid
 use Rattle.legs.specs.Legs.{foot, marked}
 use Rattle.legs.specs.Answers.{lifts}
 use Rattle.legs.specs.declared.Point.{Point}
-use Rattle.legs.specs.declared.Points.{Points}
-use Rattle.legs.specs.declared.Feet.{Feet}
+use Rattle.legs.specs.Legs.{Points}
+use Rattle.legs.specs.Legs.{Feet}
 use Rattle.sines.proofs.Examples.{quarter_turn}
 use Rattle.moves.specs.Distance.{same}
-use Rattle.moves.specs.Moving.{point_of, has_moved}
+use Rattle.moves.specs.Moving.{place_of, has_moved}
 use Rattle.commands.specs.Constants.{nought, one}
 use Rattle.commands.specs.Times.{whole_number, in_seconds}
 use Rattle.commands.specs.Command.{command, epsilon, should_move}
@@ -101,7 +101,7 @@ module _ (c : Configuration) where
       × ((planned_state (state c around around LRL 0x3d80_0000)).lifted ≡ RLR)
       × ((planned_state (state c around around LRL 0x3d80_0000)).start ≡ standing around)
       × ((planned_state (state c around around LRL 0x3d80_0000)).last ≡ standing around)
-  unfolding moved next_even even_at even_progress shift_legs stepped mark_after step_lifted_leg same has_moved point_of should_move epsilon
+  unfolding moved next_even even_at even_progress shift_legs stepped mark_after step_lifted_leg same has_moved place_of should_move epsilon
       magnitude
       whole_number in_seconds over minus nought one half half_turn round of_bits neg add sub mul div lt le eq
   stands_then_plans = (refl, refl, refl, refl)
@@ -112,7 +112,7 @@ module _ (c : Configuration) where
       × (lifts (moved (state c around target RLR 0x3d80_0000) half_second).state.last ≡ 0 ∷ 1 ∷ 1 ∷ 0 ∷ 0 ∷ 1 ∷ [])
       × (across (foot (moved (state c around target RLR 0x3d80_0000) half_second).state.last)
       ≡ bits 0x3e60_0000 ∷ bits 0x3e90_0000 ∷ bits 0x3d00_0000 ∷ bits 0xbd00_0000 ∷ bits 0xbe90_0000 ∷ bits 0xbe60_0000 ∷ [])
-  unfolding moved next_even even_at even_progress shift_legs stepped mark_after step_lifted_leg same has_moved point_of
+  unfolding moved next_even even_at even_progress shift_legs stepped mark_after step_lifted_leg same has_moved place_of
       whole_number in_seconds over minus nought one half half_turn round of_bits neg add sub mul div lt le eq
   half_way = (refl, refl, refl)
 
@@ -120,18 +120,18 @@ module _ (c : Configuration) where
   pub half_way_of_two_seconds :
       across (foot (moved (slowly c) one_second).state.last)
       ≡ bits 0x3e60_0000 ∷ bits 0x3e90_0000 ∷ bits 0x3d00_0000 ∷ bits 0xbd00_0000 ∷ bits 0xbe90_0000 ∷ bits 0xbe60_0000 ∷ []
-  unfolding moved next_even even_at even_progress shift_legs stepped mark_after step_lifted_leg same has_moved point_of
+  unfolding moved next_even even_at even_progress shift_legs stepped mark_after step_lifted_leg same has_moved place_of
       whole_number in_seconds over minus nought one half half_turn round of_bits neg add sub mul div lt le eq
   half_way_of_two_seconds = refl
 
   -- right front 1/32 m up, left front not
   pub right_front_up : (foot (moved (state c around target RLR 0x3d80_0000) half_second).state.last right_front).z ≡ bits 0xbdc0_0000
-  unfolding moved next_even even_at even_progress shift_legs stepped mark_after step_lifted_leg same has_moved point_of
+  unfolding moved next_even even_at even_progress shift_legs stepped mark_after step_lifted_leg same has_moved place_of
       whole_number in_seconds over minus nought one half half_turn round of_bits neg add sub mul div lt le eq
   right_front_up = ap (λ (x : Float). add binary32 (mul binary32 x (bits 0x3d00_0000)) (bits 0xbe00_0000)) quarter_turn
 
   pub left_front_stands : (foot (moved (state c around target RLR 0x3d80_0000) half_second).state.last left_front).z ≡ bits 0xbe00_0000
-  unfolding moved next_even even_at even_progress shift_legs stepped mark_after step_lifted_leg same has_moved point_of
+  unfolding moved next_even even_at even_progress shift_legs stepped mark_after step_lifted_leg same has_moved place_of
       whole_number in_seconds over minus nought one half half_turn round of_bits neg add sub mul div lt le eq
   left_front_stands = ap (λ (x : Float). add binary32 (mul binary32 x (bits 0)) (bits 0xbe00_0000)) quarter_turn
 
@@ -139,7 +139,7 @@ module _ (c : Configuration) where
   pub at_its_end :
       ((moved (state c around target RLR 0x3d80_0000) one_second).kind ≡ step)
       × ((moved (state c around target RLR 0x3d80_0000) one_second).state ≡ state c target target RLR 0x3d80_0000)
-  unfolding moved next_even even_at even_progress shift_legs stepped mark_after step_lifted_leg same has_moved point_of
+  unfolding moved next_even even_at even_progress shift_legs stepped mark_after step_lifted_leg same has_moved place_of
       whole_number in_seconds over minus nought one half half_turn round of_bits neg add sub mul div lt le eq
   at_its_end = (refl, refl)
 
@@ -148,13 +148,13 @@ module _ (c : Configuration) where
       (moved (state c target target RLR 0x3d80_0000) one_second ≡ onward planned (planned_state (state c target target RLR 0x3d80_0000)))
       × ((planned_state (state c target target RLR 0x3d80_0000)).lifted ≡ LRL)
       × ((planned_state (state c target target RLR 0x3d80_0000)).start ≡ standing target)
-  unfolding moved next_even even_at even_progress shift_legs stepped mark_after step_lifted_leg same has_moved point_of should_move epsilon
+  unfolding moved next_even even_at even_progress shift_legs stepped mark_after step_lifted_leg same has_moved place_of should_move epsilon
       magnitude
       whole_number in_seconds over minus nought one half half_turn round of_bits neg add sub mul div lt le eq
   then_plans = (refl, refl, refl)
 
   pub or_rests : moved (state c target target RLR 0) one_second ≡ onward rests (state c target target RLR 0)
-  unfolding moved next_even even_at even_progress shift_legs stepped mark_after step_lifted_leg same has_moved point_of should_move epsilon
+  unfolding moved next_even even_at even_progress shift_legs stepped mark_after step_lifted_leg same has_moved place_of should_move epsilon
       magnitude
       whole_number in_seconds over minus nought one half half_turn round of_bits neg add sub mul div lt le eq
   or_rests = refl

@@ -1,3 +1,5 @@
+pub mod Tests
+pub mod Small
 pub mod Conducting
 pub mod Setting
 pub mod OneAnswer

@@ -11,11 +11,11 @@ use Rattle.legs.specs.Legs.{finite_point, permitted_point, permitted_feet}
 use Rattle.legs.specs.Answers.{given_feet}
 use Rattle.legs.specs.Merge.{merged, merge_refusal, merge_told}
 use Rattle.legs.specs.Update.{updated}
-use Rattle.legs.specs.declared.Feet.{Feet}
+use Rattle.legs.specs.Legs.{Feet}
 use Rattle.legs.proofs.OnePass.{feet_finite}
-use Rattle.rows.specs.Rows.{every_point, update_refusal, update_told}
+use Rattle.rows.specs.Rows.{update_refusal, update_told}
 use Rattle.roots.specs.Root.{square_root}
-use Rattle.moves.specs.Moving.{component, move_towards, step_at, nearer, along, has_moved, point_of}
+use Rattle.moves.specs.Moving.{component, move_towards, step_at, nearer, along, has_moved, place_of}
 use Rattle.moves.specs.Distance.{same, square_sum, distance}
 use Rattle.moves.specs.Refusals.{move_refusal}
 use Rattle.moves.specs.Entries.{move_told}
@@ -52,10 +52,10 @@ module _ (a b : Feet) (p : permitted_feet foot_limit a ≡ true) (q : permitted_
 
 pub all_hold : Hold cases
 unfolding move_told move_refusal move_towards step_at same nearer along component distance square_sum square_root walk_refusal
-    merge_told merge_refusal merged update_told update_refusal updated every_point ones finite_point permitted_point finite
+    merge_told merge_refusal merged update_told update_refusal updated ones finite_point permitted_point finite
     timed_progress_told even_progress_told timed_progress even_progress progress_refusal elapsed_permitted period_permitted whole_number
     in_seconds
-    next_even_told next_even even_at lift_refusal shift_legs stepped mark_after step_lifted_leg has_moved point_of one half half_turn
+    next_even_told next_even even_at lift_refusal shift_legs stepped mark_after step_lifted_leg has_moved place_of one half half_turn
     foot_limit max_move direction walk_foot walk_move over minus round of_bits add sub mul div le eq
 all_hold =
     -- p1 to p5

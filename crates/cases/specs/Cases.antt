@@ -17,7 +17,7 @@ use Rattle.steps.specs.Entries.{timed_progress_told, even_progress_told, next_ev
 use Rattle.steps.specs.declared.Lift.{Lift}
 use Rattle.commands.specs.declared.Tripod.TheVariants.{LRL}
 use Rattle.legs.specs.declared.Point.{Point}
-use Rattle.legs.specs.declared.Feet.{Feet}
+use Rattle.legs.specs.Legs.{Feet}
 use Rattle.commands.specs.declared.Time.{Time}
 
 -- (a, b, 0), and six feet that stand at one point
@@ -77,7 +77,7 @@ lift =
 
 abbrev paced : Point → Point → Told
 paced from to =
-    next_even_told
+    next_even_told {pace = 1}
     (record { start = all from; last = all from; target = all to; period = nanoseconds 500000000; lift = lift })
     (nanoseconds 500000000)
 
@@ -91,7 +91,7 @@ moved_to from to p =
 abbrev striding : ℕ → List ℕ
 striding n =
     take 7
-    (next_even_told
+    (next_even_told {pace = 1}
     (record {
       start = all start;
       last = all start;

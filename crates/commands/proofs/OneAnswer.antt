@@ -1,18 +1,15 @@
 -- `told` loses nothing of an answer on commands, so no second answer fits a contract stated by it.
-use Rattle.std.specs.Prelude.{◌≡◌, ℕ, Bool, true, false, eqb, List, [], ◌∷◌, get_or}
+use Rattle.std.specs.Prelude.{◌≡◌, ℕ, Bool, eqb, List, get_or, Result}
 use mathlib.Core.Path.{refl, sym, ap, ap₂, ◌∙◌}
 use lib.Ieee.{Float, nan}
 use Rattle.numbers.specs.Told.{Told, choose}
-use Rattle.numbers.proofs.OneAnswer.{undone, flag_of_mark}
-use Rattle.commands.specs.Answers.{tripod_mark, command_marks, command_values, told_tripod, told, told_should}
+use Rattle.numbers.proofs.OneAnswer.{undone, flag_of_mark, told_by_loses_nothing}
+use Rattle.commands.specs.Answers.{tripod_mark, command_marks, command_values, given_command, given_flag, told_tripod, told, told_should}
 use Rattle.commands.specs.Command.{command}
+use Rattle.numbers.specs.declared.refusal.Refusal.{Refusal}
 use Rattle.commands.specs.declared.Tripod.{Tripod}
 use Rattle.commands.specs.declared.Tripod.TheVariants.{LRL, RLR}
 use Rattle.commands.specs.declared.MoveCommand.{MoveCommand}
-use Rattle.commands.specs.declared.Commanded.{Commanded}
-use Rattle.commands.specs.declared.Commanded.TheVariants.{Command, Refused}
-use Rattle.commands.specs.declared.ShouldMove.{ShouldMove}
-use Rattle.commands.specs.declared.ShouldMove.TheVariants.{Yes, No, Refused as RefusedToSay}
 
 -- a tripod is settled by its mark
 pub tripod_of_mark : ℕ → Tripod
@@ -43,20 +40,14 @@ back c =
 pub command_from_told : (a b : MoveCommand) → command_marks a ≡ command_marks b → command_values a ≡ command_values b → a ≡ b
 command_from_told a b m v = sym (back a) ∙ ap₂ from_told m v ∙ back b
 
-pub told_loses_nothing : (a b : Commanded) → told a ≡ told b → a ≡ b
-told_loses_nothing (Command a) (Command b) e =
-    ap Command (command_from_told a b (ap (λ (t : Told). t.marks) e) (ap (λ (t : Told). t.values) e))
-told_loses_nothing (Command a) (Refused n) e = let v : command_values a ≡ [] = ap (λ (t : Told). t.values) e in cc
-told_loses_nothing (Refused n) (Command b) e = let v : [] ≡ command_values b = ap (λ (t : Told). t.values) e in cc
-told_loses_nothing (Refused n) (Refused m) e = ap Refused (ap (λ (t : Told). t.number) e)
+pub told_loses_nothing : (a b : Result MoveCommand Refusal) → told a ≡ told b → a ≡ b
+told_loses_nothing =
+    told_by_loses_nothing given_command
+    (λ a b e. command_from_told a b (ap (λ (t : Told). t.marks) e) (ap (λ (t : Told). t.values) e))
+    (λ a. refl)
 
-pub told_should_loses_nothing : (a b : ShouldMove) → told_should a ≡ told_should b → a ≡ b
-told_should_loses_nothing Yes Yes e = refl
-told_should_loses_nothing Yes No e = let m : ◌≡◌ {A = List ℕ} (1 ∷ []) (0 ∷ []) = ap (λ (t : Told). t.marks) e in cc
-told_should_loses_nothing Yes (RefusedToSay n) e = let m : ◌≡◌ {A = List ℕ} (1 ∷ []) [] = ap (λ (t : Told). t.marks) e in cc
-told_should_loses_nothing No Yes e = let m : ◌≡◌ {A = List ℕ} (0 ∷ []) (1 ∷ []) = ap (λ (t : Told). t.marks) e in cc
-told_should_loses_nothing No No e = refl
-told_should_loses_nothing No (RefusedToSay n) e = let m : ◌≡◌ {A = List ℕ} (0 ∷ []) [] = ap (λ (t : Told). t.marks) e in cc
-told_should_loses_nothing (RefusedToSay n) Yes e = let m : ◌≡◌ {A = List ℕ} [] (1 ∷ []) = ap (λ (t : Told). t.marks) e in cc
-told_should_loses_nothing (RefusedToSay n) No e = let m : ◌≡◌ {A = List ℕ} [] (0 ∷ []) = ap (λ (t : Told). t.marks) e in cc
-told_should_loses_nothing (RefusedToSay n) (RefusedToSay m) e = ap RefusedToSay (ap (λ (t : Told). t.number) e)
+pub told_should_loses_nothing : (a b : Result Bool Refusal) → told_should a ≡ told_should b → a ≡ b
+told_should_loses_nothing =
+    told_by_loses_nothing given_flag
+    (λ a b e. sym (flag_of_mark a) ∙ ap (λ (t : Told). eqb (get_or t.marks 0 0) 1) e ∙ flag_of_mark b)
+    (λ a. refl)

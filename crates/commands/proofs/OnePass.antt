@@ -4,7 +4,7 @@ use mathlib.Core.Path.{refl, sym, ap, ◌∙◌}
 use lib.Ieee.{Float, le}
 use Rattle.numbers.specs.Door.{finite, permits, unless}
 use Rattle.numbers.specs.Limits.{over, minus, direction, rotation}
-use Rattle.numbers.proofs.OnePass.{in_row, both, and_right, let_through_to}
+use Rattle.numbers.proofs.OnePass.{in_row, both, and_right, let_through_to, kept_out_of}
 use Rattle.commands.specs.Times.{period_permitted}
 use Rattle.commands.specs.Command.{finite_command, permitted_command, command_refusal, default_command, default_step_height}
 use Rattle.commands.specs.Constants.{nought}
@@ -25,6 +25,9 @@ command_finite c =
     both
     (both (both (length_finite c.direction_x) (length_finite c.direction_y)) (rotation_finite c.rotation))
     (length_finite c.step_height)
+
+-- so that its refusal is by its time where its floats are in the table, and else by whether they are finite
+pub ruleset command_looked_at = (command_finite, let_through_to, kept_out_of)
 
 -- and its height is
 pub height_permitted : (c : MoveCommand) → permitted_command c ≡ true → permits direction c.step_height ≡ true

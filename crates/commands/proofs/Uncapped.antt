@@ -1,7 +1,6 @@
 -- Inside the limits a time is not capped: the f32 that ours makes is document 01's.
-use Rattle.std.specs.Prelude.{◌≡◌, ℕ, ◌+◌, ◌*◌, ◌^◌, ◌≤◌, Bool, true, false, ◌&&◌, ltb, leb}
-use mathlib.Core.Path.{refl, sym, ap}
-use mathlib.Core.Bool.{true≢false}
+use Rattle.std.specs.Prelude.{◌≡◌, ℕ, ◌+◌, ◌*◌, ◌^◌, ◌≤◌, true, ◌&&◌, ltb, leb}
+use mathlib.Core.Path.{ap}
 use native.Mathlib.Omega.{arith}
 use borrow.Author.Tests.{leb-true}
 use Rattle.numbers.proofs.OnePass.{and_left, and_right}

@@ -1,14 +1,11 @@
 -- Document 01's number and values for each case of an answer on commands.
-use Rattle.std.specs.Prelude.{ℕ, List, [], ◌∷◌}
-use Rattle.std.specs.Prelude.{Float}
-use Rattle.numbers.specs.Told.{Told, refused, given, mark}
+use Rattle.std.specs.Prelude.{ℕ, Bool, List, [], ◌∷◌, Float, Result}
+use Rattle.numbers.specs.Told.{Told, given, mark}
+use Rattle.numbers.specs.Answers.{told_by}
+use Rattle.numbers.specs.declared.refusal.Refusal.{Refusal}
 use Rattle.commands.specs.declared.Tripod.{Tripod}
 use Rattle.commands.specs.declared.Tripod.TheVariants.{LRL, RLR}
 use Rattle.commands.specs.declared.MoveCommand.{MoveCommand}
-use Rattle.commands.specs.declared.Commanded.{Commanded}
-use Rattle.commands.specs.declared.Commanded.TheVariants.{Command, Refused}
-use Rattle.commands.specs.declared.ShouldMove.{ShouldMove}
-use Rattle.commands.specs.declared.ShouldMove.TheVariants.{Yes, No, Refused as RefusedToSay}
 
 -- a tripod is 0 for LRL, 1 for RLR
 abbrev pub tripod_mark : Tripod → ℕ
@@ -28,12 +25,12 @@ command_values c = c.direction_x ∷ c.direction_y ∷ c.rotation ∷ c.step_hei
 abbrev pub given_command : MoveCommand → Told
 given_command c = given (command_marks c) (command_values c)
 
-abbrev pub told : Commanded → Told
-told (Command c) = given_command c
-told (Refused n) = refused n
+abbrev pub told : Result MoveCommand Refusal → Told
+told r = told_by given_command r
 
 -- yes is 1, no is 0
-abbrev pub told_should : ShouldMove → Told
-told_should Yes = given (1 ∷ []) []
-told_should No = given (0 ∷ []) []
-told_should (RefusedToSay n) = refused n
+abbrev pub given_flag : Bool → Told
+given_flag b = given (mark b ∷ []) []
+
+abbrev pub told_should : Result Bool Refusal → Told
+told_should r = told_by given_flag r

@@ -63,7 +63,7 @@ command_refusal c =
     ∷ [])
 
 -- what the constructors answer
-unfoldable pub checked_told : MoveCommand → Told
+abbrev pub checked_told : MoveCommand → Told
 checked_told c = answer (command_refusal c) (given_command c)
 
 unfoldable pub new_told : Float → Float → Float → Told
@@ -75,7 +75,7 @@ new_told x y turn =
     default_command.step_height
     default_command.aggressive_leg_lift)
 
-unfoldable pub with_told : Float → Float → Float → Time → Float → Bool → Told
+abbrev pub with_told : Float → Float → Float → Time → Float → Bool → Told
 with_told x y turn time height aggressive = checked_told (command x y turn time height aggressive)
 
 -- f32's EPSILON, 2^-23
@@ -89,5 +89,5 @@ should_move c =
     && lt (magnitude c.direction_x) epsilon
     && lt (magnitude c.direction_y) epsilon)
 
-unfoldable pub should_move_told : MoveCommand → Told
+abbrev pub should_move_told : MoveCommand → Told
 should_move_told c = answer (command_refusal c) (given (mark (should_move c) ∷ []) [])

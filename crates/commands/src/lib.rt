@@ -3,24 +3,25 @@
 #![tactic(auto)]
 
 ghost use Rattle.std.specs.Prelude.{◌≡◌};
+ghost use Rattle.numbers.specs.Refusals.{number_or_0};
 ghost use Rattle.commands.specs.Answers.{told, told_should, told_tripod};
 ghost use Rattle.commands.specs.Command.{default_step_time, default_step_height, default_step_distance, default_command};
 ghost use Rattle.commands.specs.Command.{command_refusal, checked_told, new_told, with_told, should_move_told};
 ghost use Rattle.commands.specs.Tripods.{inverted, flag_of};
 
-use numbers::door;
+use numbers::{Refusal, door};
 
 pub mod unchecked;
 
-// Whole seconds, and nanoseconds below 10^9.
-#[derive(Clone, Copy)]
+/// Whole seconds, and nanoseconds below 10^9.
+#[derive(Clone, Copy, Debug, PartialEq, Eq)]
 pub struct Time {
     pub seconds: u64,
     pub nanoseconds: u32,
 }
 
-// What the driver asks for.
-#[derive(Clone, Copy)]
+/// What the driver asks for: a direction in metres, a rotation in radians, and how a step is made.
+#[derive(Clone, Copy, Debug, PartialEq)]
 pub struct MoveCommand {
     pub direction_x: f32,
     pub direction_y: f32,
@@ -30,29 +31,14 @@ pub struct MoveCommand {
     pub aggressive_leg_lift: bool,
 }
 
-// What a constructor answers: the command, or why not.
-#[derive(Clone, Copy)]
-pub enum Commanded {
-    Command(MoveCommand),
-    Refused(u32),
-}
-
-// What `should_move` answers.
-#[derive(Clone, Copy)]
-pub enum ShouldMove {
-    Yes,
-    No,
-    Refused(u32),
-}
-
-// The three legs that are lifted together: left front, right middle, left rear; or the other three.
-#[derive(Clone, Copy)]
+/// The three legs that are lifted together: left front, right middle, left rear; or the other three.
+#[derive(Clone, Copy, Debug, PartialEq, Eq)]
 pub enum Tripod {
     LRL,
     RLR,
 }
 
-// The source's default step time, 600 ms.
+/// The source's default step time, 600 ms.
 pub fn default_step_time() -> Time
     ensures { result ≡ default_step_time }
 {
@@ -62,14 +48,16 @@ pub fn default_step_time() -> Time
     }
 }
 
-// The source's default step height, 0.03 m.
+/// The source's default step height, 0.03 m.
+#[tactic(auto, using(crate::proofs::Constants::height_bits))]
 pub fn default_step_height() -> f32
     ensures { result ≡ default_step_height }
 {
     0.03
 }
 
-// The source's default step distance, 0.025 m.
+/// The source's default step distance, 0.025 m.
+#[tactic(auto, using(crate::proofs::Constants::distance_bits))]
 pub fn default_step_distance() -> f32
     ensures { result ≡ default_step_distance }
 {
@@ -77,7 +65,7 @@ pub fn default_step_distance() -> f32
 }
 
 impl Tripod {
-    // The other three legs.
+    /// The other three legs.
     pub fn invert(self) -> Tripod
         ensures { told_tripod result ≡ told_tripod (inverted self) }
     {
@@ -87,7 +75,7 @@ impl Tripod {
         }
     }
 
-    // The mask of its legs.
+    /// The mask of its legs.
     pub fn as_flag(self) -> u32
         ensures { result ≡ flag_of self }
     {
@@ -98,9 +86,12 @@ impl Tripod {
     }
 }
 
-impl MoveCommand {
-    // Stand still: no direction, no rotation, the default step time and height.
-    pub fn default() -> MoveCommand
+impl Default for MoveCommand {
+    ghost is_default = { λ c. c ≡ default_command };
+
+    /// Stand still: no direction, no rotation, the default step time and height.
+    #[tactic(auto, using(crate::proofs::Constants::nought_bits), unfolding(crate::specs::Command::default_command))]
+    fn default() -> MoveCommand
         ensures { result ≡ default_command }
     {
         MoveCommand {
@@ -112,25 +103,24 @@ impl MoveCommand {
             aggressive_leg_lift: false,
         }
     }
+}
 
-    // This direction and rotation, all else as in the default.
-    pub fn new(direction_x: f32, direction_y: f32, rotation: f32) -> Commanded
+impl MoveCommand {
+    /// This direction and rotation, all else as in the default. Refused where a number is not finite, or outside the table.
+    #[tactic(auto, unfolding(crate::specs::Command::new_told))]
+    pub fn new(direction_x: f32, direction_y: f32, rotation: f32) -> Result<MoveCommand, Refusal>
         ensures { told result ≡ new_told direction_x direction_y rotation }
     {
-        let standing = MoveCommand::default();
-        let step_time = standing.step_time;
         let command = MoveCommand {
-            direction_x: direction_x,
-            direction_y: direction_y,
-            rotation: rotation,
-            step_time: step_time,
-            step_height: standing.step_height,
-            aggressive_leg_lift: standing.aggressive_leg_lift,
+            direction_x,
+            direction_y,
+            rotation,
+            ..MoveCommand::default()
         };
-        checked(command)
+        command.checked()
     }
 
-    // Every field given.
+    /// Every field given. Refused where a number is not finite, or it or the step time outside the table.
     pub fn with_optional_fields(
         direction_x: f32,
         direction_y: f32,
@@ -138,55 +128,47 @@ impl MoveCommand {
         step_time: Time,
         step_height: f32,
         aggressive_leg_lift: bool,
-    ) -> Commanded
+    ) -> Result<MoveCommand, Refusal>
         ensures { told result ≡ with_told direction_x direction_y rotation step_time step_height aggressive_leg_lift }
     {
-        checked(MoveCommand {
-            direction_x: direction_x,
-            direction_y: direction_y,
-            rotation: rotation,
-            step_time: step_time,
-            step_height: step_height,
-            aggressive_leg_lift: aggressive_leg_lift,
-        })
+        let command = MoveCommand {
+            direction_x,
+            direction_y,
+            rotation,
+            step_time,
+            step_height,
+            aggressive_leg_lift,
+        };
+        command.checked()
     }
 
-    // Why a command is refused: the lowest number that applies, or 0.
-    fn refused(self) -> u32
-        ensures { result ≡ command_refusal self }
-    {
-        if unchecked::command_permitted(self) {
-            door::unless(unchecked::is_period(self.step_time), 3)
-        } else {
-            door::outside(unchecked::command_finite(self))
-        }
-    }
-
-    // Whether the command asks for a move at all: some part of it is no smaller than f32's EPSILON.
-    pub fn should_move(self) -> ShouldMove
+    /// Whether the command asks for a move at all: some part of it is no smaller than f32's EPSILON.
+    #[tactic(auto, using(numbers::proofs::Admitted::entry))]
+    pub fn should_move(self) -> Result<bool, Refusal>
         ensures { told_should result ≡ should_move_told self }
     {
-        let n = self.refused();
-        if n == 0 {
-            if unchecked::should_move(self) {
-                ShouldMove::Yes
-            } else {
-                ShouldMove::No
-            }
+        self.admit()?;
+        Ok(unchecked::should_move(self))
+    }
+
+    // Why the command is refused: the lowest number that applies.
+    #[tactic(auto, using(crate::proofs::OnePass::command_looked_at), unfolding(crate::specs::Command::command_refusal))]
+    fn admit(self) -> Result<(), Refusal>
+        ensures { number_or_0 result ≡ command_refusal self }
+    {
+        if unchecked::command_permitted(self) {
+            door::ensure(unchecked::is_period(self.step_time), Refusal::Time)
         } else {
-            ShouldMove::Refused(n)
+            Err(door::outside(unchecked::command_finite(self)))
         }
     }
-}
 
-// The command, looked at whole.
-fn checked(command: MoveCommand) -> Commanded
-    ensures { told result ≡ checked_told command }
-{
-    let number = command.refused();
-    if number == 0 {
-        Commanded::Command(command)
-    } else {
-        Commanded::Refused(number)
+    // The command as it is, or why it is refused.
+    #[tactic(auto, using(numbers::proofs::Admitted::entry))]
+    fn checked(self) -> Result<MoveCommand, Refusal>
+        ensures { told result ≡ checked_told self }
+    {
+        self.admit()?;
+        Ok(self)
     }
 }

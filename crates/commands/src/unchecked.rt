@@ -8,14 +8,16 @@ ghost use Rattle.commands.specs.Tripods.{is_lrl};
 use crate::{MoveCommand, Time, Tripod};
 use numbers::{door, limits};
 
-// Whether an elapsed time is in the table: at most 3600 s and nanoseconds below 10^9.
+/// Whether an elapsed time is in the table: at most 3600 s and nanoseconds below 10^9.
+#[tactic(auto, unfolding(crate::specs::Times::elapsed_permitted))]
 pub fn is_elapsed(t: Time) -> bool
     ensures { result ≡ elapsed_permitted t }
 {
     (t.seconds <= 3600) & (t.nanoseconds < 1_000_000_000)
 }
 
-// Whether a period or a step time is in the table: 1 ms to 60 s, nanoseconds below 10^9.
+/// Whether a period or a step time is in the table: 1 ms to 60 s, nanoseconds below 10^9.
+#[tactic(auto, unfolding(crate::specs::Times::period_permitted))]
 pub fn is_period(t: Time) -> bool
     ensures { result ≡ period_permitted t }
 {
@@ -27,7 +29,7 @@ pub fn is_period(t: Time) -> bool
     }
 }
 
-// A whole number as the nearest f32. The two halves are exact, so that their sum is rounded once.
+/// A whole number as the nearest f32. The two halves are exact, so that their sum is rounded once.
 pub fn rounded(n: u32) -> f32
     ensures { result ≡ whole_number n }
 {
@@ -41,14 +43,10 @@ pub fn rounded(n: u32) -> f32
 fn counted(seconds: u64) -> u32
     ensures { result ≡ counted seconds }
 {
-    if seconds < 0x100_0000 {
-        seconds as u32
-    } else {
-        0x100_0000
-    }
+    seconds.min(0x100_0000) as u32
 }
 
-// A time as f32 seconds. More than 2^24 whole seconds count as 2^24; the door lets 3600 pass.
+/// A time as f32 seconds. More than 2^24 whole seconds count as 2^24; the door lets 3600 pass.
 pub fn as_secs_f32(t: Time) -> f32
     ensures { result ≡ in_seconds (capped t) }
 {
@@ -56,17 +54,15 @@ pub fn as_secs_f32(t: Time) -> f32
     seconds + rounded(t.nanoseconds) / 1000000000.0
 }
 
-// Whether left front, right middle and left rear are the lifted ones.
+/// Whether left front, right middle and left rear are the lifted ones.
 pub fn is_lrl(tripod: Tripod) -> bool
     ensures { result ≡ is_lrl tripod }
 {
-    match tripod {
-        Tripod::LRL => true,
-        Tripod::RLR => false,
-    }
+    tripod == Tripod::LRL
 }
 
-// Whether all four floats are finite.
+/// Whether all four floats are finite.
+#[tactic(auto, unfolding(crate::specs::Command::finite_command))]
 pub fn command_finite(c: MoveCommand) -> bool
     ensures { result ≡ finite_command c }
 {
@@ -76,7 +72,8 @@ pub fn command_finite(c: MoveCommand) -> bool
         & door::is_finite(c.step_height)
 }
 
-// Whether all four floats are in the table.
+/// Whether all four floats are in the table.
+#[tactic(auto, unfolding(crate::specs::Command::permitted_command))]
 pub fn command_permitted(c: MoveCommand) -> bool
     ensures { result ≡ permitted_command c }
 {
@@ -88,7 +85,8 @@ pub fn command_permitted(c: MoveCommand) -> bool
         & door::is_permitted(length, c.step_height)
 }
 
-// Whether rotation, direction x or direction y is no smaller than f32's EPSILON, 2^-23.
+/// Whether rotation, direction x or direction y is no smaller than f32's EPSILON, 2^-23.
+#[tactic(auto, using(crate::proofs::Constants::epsilon_bits), unfolding(crate::specs::Command::should_move))]
 pub fn should_move(c: MoveCommand) -> bool
     ensures { result ≡ should_move c }
 {

@@ -2,11 +2,9 @@
 use mathlib.Core.Path.{◌≡◌, refl, ap, ◌∙◌, sym, subst}
 use mathlib.Core.Bool.{Bool, true, false, ◌&&◌, false≢true}
 use mathlib.Core.List.{List, [], ◌∷◌}
-use Prim.Native.Nat.{ℕ, suc, ◌+◌, ◌≤◌, ◌<◌}
-use native.Mathlib.Numerals.{add-one}
+use Prim.Native.Nat.{ℕ}
 use lib.Dec.{eqb}
-use lib.ListN.{length, get_or, drop, drop_of_length-le}
-use lib.Seq.{drop-cons}
+use lib.ListN.{get_or}
 use borrow.Author.Tests.{eqb-true, eq-eqb}
 use Rattle.numbers.specs.Told.{choose}
 use Rattle.numbers.proofs.OnePass.{and_left, and_right}
@@ -17,8 +15,7 @@ use Rattle.lines.specs.Reading.{line_of}
 use Rattle.lines.specs.declared.listed.Moved.{Moved}
 use Rattle.lines.specs.declared.listed.Line.{Line}
 use Rattle.lines.specs.declared.listed.Line.TheVariants.{Header, Move, Arrived, Refused}
-use Rattle.lines.specs.declared.listed.Found.{Found}
-use Rattle.lines.specs.declared.listed.Found.TheVariants.{Known, NoLine}
+use Rattle.std.specs.Prelude.{Option, Some, None}
 use Rattle.lines.specs.declared.compared.Told.TheVariants as told
 use Rattle.lines.proofs.Listings.{line_back, line_exact}
 use Rattle.lines.proofs.Versions.{same_line, wider}
@@ -41,9 +38,9 @@ good_read version s l = by_found (line_of (count_digits version) s) refl
     is_good true m e = (refl, cc)
     is_good false m e = let z : ◌≡◌ {A = Bool} true false = cc in absurd (false≢true (sym z))
 
-    by_found : (f : Found) → line_of (count_digits version) s ≡ f → seen_in version f ≡ Good l → ReadAs version s l
-    by_found NoLine e g = let z : ◌≡◌ {A = Bool} true false = cc in absurd (false≢true (sym z))
-    by_found (Known m) e g =
+    by_found : (f : Option Line) → line_of (count_digits version) s ≡ f → seen_in version f ≡ Good l → ReadAs version s l
+    by_found None e g = let z : ◌≡◌ {A = Bool} true false = cc in absurd (false≢true (sym z))
+    by_found (Some m) e g =
         let was = line_exact (count_digits version) s m e in
         let is = is_good (may_stand version m) m g in
         subst (ReadAs version s) is.1
@@ -76,33 +73,6 @@ pub same_itself : (s : List ℕ) → same_bytes s s ≡ true
 unfolding same_bytes
 same_itself [] = refl
 same_itself (b ∷ s) = rw (eq-eqb b b refl) (same_itself s)
-
--- the test, byte by byte from the left: what is seen so far, and what is left
-pub same_step : (a b : List ℕ) (i : ℕ) (t : Bool) → i < length a → i < length b
-    → (t && same_bytes (drop i a) (drop i b)) ≡ (t && eqb (get_or a i 0) (get_or b i 0) && same_bytes (drop (i + 1) a) (drop (i + 1) b))
-unfolding same_bytes
-same_step a b i t h g =
-    rw (add-one i, drop-cons a i 0 h, drop-cons b i 0 g)
-    (regroup t (eqb (get_or a i 0) (get_or b i 0)) (same_bytes (drop (suc i) a) (drop (suc i) b)))
-  where
-    regroup : (x y z : Bool) → (x && (y && z)) ≡ (x && y && z)
-    regroup true y z = refl
-    regroup false y z = refl
-
-pub same_end : (a b : List ℕ) (i : ℕ) (t : Bool) → length a ≤ i → length b ≤ i → (t && same_bytes (drop i a) (drop i b)) ≡ t
-unfolding same_bytes
-same_end a b i t h g = rw (drop_of_length-le a h, drop_of_length-le b g) (with_true t)
-  where
-    with_true : (x : Bool) → (x && true) ≡ x
-    with_true true = refl
-    with_true false = refl
-
-pub other_length : (a b : List ℕ) → (length a ≡ length b → ⊥) → same_bytes a b ≡ false
-other_length a b apart = by_flag (same_bytes a b) refl
-  where
-    by_flag : (t : Bool) → same_bytes a b ≡ t → t ≡ false
-    by_flag true e = absurd (apart (ap length (same_is_equal a b e)))
-    by_flag false e = refl
 
 -- a test on values that holds exactly where they are equal is the test on bytes
 module _ (l m : Line) (d : Listable 9 l) (e : Listable 9 m) where

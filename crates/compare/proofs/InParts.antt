@@ -2,7 +2,7 @@
 use mathlib.Core.Path.{◌≡◌, refl, ap, ◌∙◌, sym, subst}
 use mathlib.Core.Bool.{Bool, true, false, ◌||◌, false≢true}
 use mathlib.Core.List.{List, [], ◌∷◌, ◌++◌, map, append-nil}
-use mathlib.Core.Logic.{◌⊎◌, ⊎_elim}
+use mathlib.Core.Logic.{⊎_elim}
 use Prim.Native.Nat.{ℕ, zero, suc, ◌+◌, ◌-◌, ◌≤◌, ◌<◌, ◌^◌}
 use native.Mathlib.Omega.{arith}
 use lib.Dec.{eqb}
@@ -15,8 +15,7 @@ use Rattle.lines.specs.Reading.{line_of}
 use Rattle.lines.specs.declared.listed.Moved.{Moved}
 use Rattle.lines.specs.declared.listed.Line.{Line}
 use Rattle.lines.specs.declared.listed.Line.TheVariants.{Header, Move, Arrived, Refused}
-use Rattle.lines.specs.declared.listed.Found.{Found}
-use Rattle.lines.specs.declared.listed.Found.TheVariants.{Known, NoLine}
+use Rattle.std.specs.Prelude.{Option, Some, None}
 use Rattle.lines.specs.declared.compared.Told.{Told}
 use Rattle.lines.specs.declared.compared.Told.TheVariants as told
 use Rattle.compare.specs.Seen.{good_first, may_stand, seen_in, read, version_of, version_in, version_after}
@@ -59,9 +58,9 @@ never_nothing v s = by_found (line_of (count_digits v) s)
     by_flag true l e = let z : ◌≡◌ {A = Bool} true false = cc in absurd (false≢true (sym z))
     by_flag false l e = let z : ◌≡◌ {A = Bool} true false = cc in absurd (false≢true (sym z))
 
-    by_found : {A : Type 0} (f : Found) → seen_in v f ≡ Nothing → A
-    by_found NoLine e = let z : ◌≡◌ {A = Bool} true false = cc in absurd (false≢true (sym z))
-    by_found (Known l) e = by_flag (may_stand v l) l e
+    by_found : {A : Type 0} (f : Option Line) → seen_in v f ≡ Nothing → A
+    by_found None e = let z : ◌≡◌ {A = Bool} true false = cc in absurd (false≢true (sym z))
+    by_found (Some l) e = by_flag (may_stand v l) l e
 
 -- no row of a file is a row behind its last
 abbrev Rows : List Row → Type 0
@@ -343,12 +342,12 @@ first_row (line s) = by_found (line_of (count_digits 0) s)
     not_none v false true e f = header v (ne_eqb v 0 (λ z. omega (arith, eqb-true v 2 f))) refl
     not_none v false false e f = bad refl
 
-    by_found : (f : Found) → FirstRow (seen_in 0 f)
-    by_found NoLine = bad refl
-    by_found (Known (Header v)) = not_none v (eqb v 1) (eqb v 2) refl refl
-    by_found (Known (Move m)) = bad refl
-    by_found (Known (Arrived n)) = bad refl
-    by_found (Known (Refused n)) = bad refl
+    by_found : (f : Option Line) → FirstRow (seen_in 0 f)
+    by_found None = bad refl
+    by_found (Some (Header v)) = not_none v (eqb v 1) (eqb v 2) refl refl
+    by_found (Some (Move m)) = bad refl
+    by_found (Some (Arrived n)) = bad refl
+    by_found (Some (Refused n)) = bad refl
 
 -- the first position
 module _ (turns : ℕ) (bench office : Side) (enough : length (rows bench) + length (rows office) < turns)

@@ -10,8 +10,8 @@ use borrow.Author.Tests.{le-leb, lt-leb}
 use Rattle.lines.specs.Carry.{Held, fresh, has_begun, keep}
 use Rattle.lines.specs.Lines.{count_digits}
 use Rattle.lines.specs.Reading.{line_of}
-use Rattle.lines.specs.declared.listed.Found.{Found}
-use Rattle.lines.specs.declared.listed.Found.TheVariants.{Known, NoLine}
+use Rattle.std.specs.Prelude.{Option, Some, None}
+use Rattle.lines.specs.declared.listed.Line.{Line}
 use Rattle.lines.proofs.Cutting.{short_or_long, nothing_kept}
 use Rattle.lines.proofs.Listings.{line_exact, listed_width}
 use Rattle.compare.specs.Seen.{seen_in, read, read_kept}
@@ -22,9 +22,9 @@ pub long_is_bad : (v : ℕ) (l : List ℕ) → 128 < length l → read v l ≡ B
 unfolding read
 long_is_bad v l many = by_found (line_of (count_digits v) l) refl
   where
-    by_found : (f : Found) → line_of (count_digits v) l ≡ f → seen_in v f ≡ Bad
-    by_found NoLine e = refl
-    by_found (Known line) e =
+    by_found : (f : Option Line) → line_of (count_digits v) l ≡ f → seen_in v f ≡ Bad
+    by_found None e = refl
+    by_found (Some line) e =
         let was = line_exact (count_digits v) l line e in
         absurd (omega (arith, ap length was.bytes, listed_width (count_digits v) line was.listable))
 

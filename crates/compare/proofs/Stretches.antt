@@ -1,6 +1,6 @@
 -- A stretch of positions is so many steps: none where it stops, one for each position told, and two stretches behind each other are one.
-use mathlib.Core.Path.{◌≡◌, refl, ap, ◌∙◌, sym, subst}
-use mathlib.Core.Bool.{Bool, true, false, false≢true}
+use mathlib.Core.Path.{◌≡◌, refl, ap, ◌∙◌, sym}
+use mathlib.Core.Bool.{Bool, true, false}
 use mathlib.Core.List.{List, [], ◌∷◌, ◌++◌, append_assoc}
 use Prim.Native.Nat.{ℕ, ◌+◌, ◌-◌, ◌≤◌, ◌<◌}
 use native.Mathlib.Nat.{add_assoc, add-zero, min-eq_left}
@@ -18,7 +18,7 @@ use Rattle.compare.specs.Seen.{read}
 use Rattle.compare.specs.Step.{is_last, step_of}
 use Rattle.compare.specs.Rule.{printed}
 use Rattle.compare.specs.Parts.{Pulled, next, steps}
-use Rattle.compare.specs.Stretch.{stopped_at, told_at, left, Goes, Onward}
+use Rattle.compare.specs.Stretch.{told_at, left, Goes, Nearer}
 use Rattle.compare.specs.declared.seen.Seen.{Seen}
 use Rattle.compare.specs.declared.step.Step.{Step}
 use Rattle.compare.specs.declared.stretch.Reached.{Reached}
@@ -35,21 +35,6 @@ module _ (bench office : List ℕ) where
         stored = stored_nothing;
         joins = λ turns f ps g qs. ap (λ (n : ℕ). left bench office r n f ps g qs) (add-zero turns);
       }
-
-  -- it stops
-  pub stops : (before : List ℕ) (r q : Reached) → q ≡ stopped_at r → Onward bench office before r before q
-  unfolding stopped_at
-  stops before r q is =
-      subst (λ (x : Reached). Onward bench office before r before x) (sym is)
-      (record {
-        goes = record {
-          text = [];
-          count = 0;
-          stored = stored_nothing;
-          joins = λ turns f ps g qs. ap (λ (n : ℕ). left bench office r n f ps g qs) (add-zero turns);
-        };
-        nearer = λ e. absurd (false≢true (sym e));
-      })
 
   -- and one behind the other
   pub goes_more : {before between after : List ℕ} {r q p : Reached} → Goes bench office before r between q
@@ -112,7 +97,7 @@ module _ (bench office : List ℕ) (r : Reached) (going : r.done ≡ false) (e f
   pub told_onward : (before after : List ℕ) (q : Reached) (s : Step) → s ≡ here → q ≡ told_at q.at s (e + 1) (f + 1)
       → has_told_room before r.at ≡ true
       → Stored before r.at (choose (has_told_room before r.at) (told_text s.told) []) q.at after
-      → Onward bench office before r after q
+      → Nearer bench office before r after q
   told_onward before after q s is told room stored =
       let there : q ≡ told_at q.at here (e + 1) (f + 1) = told ∙ ap (λ (t : Step). told_at q.at t (e + 1) (f + 1)) is in
       record {
@@ -125,7 +110,7 @@ module _ (bench office : List ℕ) (r : Reached) (going : r.done ≡ false) (e f
               one_told q.at turns x ps y qs
               ∙ ap (λ (p : Reached). told_text here.told ++ left bench office p turns x ps y qs) (sym there);
         };
-        nearer = λ z.
+        nearer =
             let b : q.bench ≡ e + 1 = ap (λ (p : Reached). p.bench) there in
             (omega arith, omega arith);
       }

@@ -10,6 +10,7 @@ use Rattle.compare.specs.Seen.{read_kept, read_last}
 use Rattle.compare.specs.Step.{is_last, step_of}
 use Rattle.compare.specs.declared.seen.Seen.{Seen}
 use Rattle.compare.specs.declared.cut.Cut.{Cut}
+use Rattle.compare.specs.declared.cut.Cut.TheVariants.{Whole, Begun}
 use Rattle.compare.specs.declared.step.State.{State}
 
 -- what a file has left: its parts, and whether a read fails behind them
@@ -45,9 +46,12 @@ steps (suc turns) st bench office =
     s.told ∷ choose (is_last s.told) [] (steps turns s.next a.left b.left)
 
 -- a line goes on in a part, from a place on: whatever parts follow, it is whole and the part goes on behind it, or the next parts have it
+abbrev pub pulled_on : ℕ → Bool → List ℕ → List (List ℕ) → Cut → Pulled
+pulled_on version failed part ps (Whole seen from) =
+    record { what = seen; left = record { failed = failed; parts = drop from part ∷ ps } }
+pulled_on version failed part ps (Begun carry) = pulled version failed (held carry) ps
+
 abbrev pub GoesOn : ℕ → Carry → List ℕ → ℕ → Cut → Type 0
 GoesOn version c part from r =
     (failed : Bool) (ps : List (List ℕ))
-    → pulled version failed (held c) (drop from part ∷ ps)
-    ≡ choose r.whole (record { what = r.seen; left = record { failed = failed; parts = drop r.from part ∷ ps } })
-    (pulled version failed (held r.carry) ps)
+    → pulled version failed (held c) (drop from part ∷ ps) ≡ pulled_on version failed part ps r

@@ -1,14 +1,12 @@
 -- Request K1: "Lines end as in 01; line 1 is the header and no other is; further lines are `M` (count from 1), `A`, or `R` with 1, 2 or 7;
 -- their order and floats are not judged"; of K9, that it "reads both versions". What a file has at a position.
-use Rattle.std.specs.Prelude.{ℕ, Bool, true, false, not, ◌||◌, List, eqb}
+use Rattle.std.specs.Prelude.{ℕ, Bool, true, false, not, ◌||◌, List, eqb, Option, Some, None}
 use Rattle.numbers.specs.Told.{choose}
 use Rattle.lines.specs.Carry.{Held, has_begun}
 use Rattle.lines.specs.Lines.{count_digits}
 use Rattle.lines.specs.Reading.{line_of}
 use Rattle.lines.specs.declared.listed.Line.{Line}
 use Rattle.lines.specs.declared.listed.Line.TheVariants.{Header, Move, Arrived, Refused}
-use Rattle.lines.specs.declared.listed.Found.{Found}
-use Rattle.lines.specs.declared.listed.Found.TheVariants.{Known, NoLine}
 use Rattle.compare.specs.declared.seen.Seen.{Seen}
 use Rattle.compare.specs.declared.seen.Seen.TheVariants.{Good, Bad, Nothing}
 
@@ -30,9 +28,9 @@ good_later (Refused number) = eqb number 1 || eqb number 2 || eqb number 7
 unfoldable pub may_stand : ℕ → Line → Bool
 may_stand version line = choose (eqb version 0) (good_first line) (good_later line)
 
-abbrev pub seen_in : ℕ → Found → Seen
-seen_in version (Known line) = choose (may_stand version line) (Good line) Bad
-seen_in version NoLine = Bad
+abbrev pub seen_in : ℕ → Option Line → Seen
+seen_in version (Some line) = choose (may_stand version line) (Good line) Bad
+seen_in version None = Bad
 
 -- the bytes of a line, without their newline, in a file of a version: a count's digits are those of the version
 unfoldable pub read : ℕ → List ℕ → Seen

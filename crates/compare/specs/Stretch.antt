@@ -1,5 +1,5 @@
 -- How ours goes through a stretch of positions whose lines lie whole in a chunk of each file: so many steps, of which the text is stored.
-use Rattle.std.specs.Prelude.{ℕ, ◌+◌, ◌≤◌, ◌<◌, ◌≡◌, Bool, true, false, List, [], ◌∷◌, ◌++◌, length, drop}
+use Rattle.std.specs.Prelude.{ℕ, ◌+◌, ◌≤◌, ◌<◌, ◌≡◌, Bool, List, [], ◌∷◌, ◌++◌, length, drop, Option, MatchOption}
 use Rattle.numbers.specs.Told.{choose}
 use Rattle.numbers.specs.Stored.{Stored}
 use Rattle.compare.specs.Step.{is_last}
@@ -8,13 +8,9 @@ use Rattle.compare.specs.Parts.{steps}
 use Rattle.compare.specs.declared.step.Step.{Step}
 use Rattle.compare.specs.declared.stretch.Reached.{Reached}
 
-unfoldable pub stopped_at : Reached → Reached
-stopped_at r =
-    record { at = r.at; bench = r.bench; office = r.office; st = r.st; done = r.done; stopped = true }
-
 abbrev pub told_at : ℕ → Step → ℕ → ℕ → Reached
 told_at at s bench office =
-    record { at = at; bench = bench; office = office; st = s.next; done = is_last s.told; stopped = false }
+    record { at = at; bench = bench; office = office; st = s.next; done = is_last s.told }
 
 -- what is still to be printed, in so many turns, whatever parts follow the two chunks
 abbrev pub left : List ℕ → List ℕ → Reached → ℕ → Bool → List (List ℕ) → Bool → List (List ℕ) → List ℕ
@@ -32,7 +28,10 @@ pub record Goes (bench office before : List ℕ) (r : Reached) (after : List ℕ
   pub joins : (turns : ℕ) (f : Bool) (ps : List (List ℕ)) (g : Bool) (qs : List (List ℕ))
       → left bench office r (turns + count) f ps g qs ≡ text ++ left bench office q turns f ps g qs
 
--- one position more, or it stops
-pub record Onward (bench office before : List ℕ) (r : Reached) (after : List ℕ) (q : Reached) : Type 0 where
+-- one position more, or it stops and all stays
+pub record Nearer (bench office before : List ℕ) (r : Reached) (after : List ℕ) (q : Reached) : Type 0 where
   pub goes : Goes bench office before r after q
-  pub nearer : q.stopped ≡ false → (r.bench < q.bench) × (q.bench ≤ length bench)
+  pub nearer : (r.bench < q.bench) × (q.bench ≤ length bench)
+
+abbrev pub Onward : List ℕ → List ℕ → List ℕ → Reached → List ℕ → Option Reached → Type 0
+Onward bench office before r after next = MatchOption next (after ≡ before) (λ q. Nearer bench office before r after q)

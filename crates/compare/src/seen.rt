@@ -5,25 +5,29 @@ ghost use Rattle.lines.specs.Carry.{held, keep};
 ghost use Rattle.compare.specs.Seen.{good_first, good_later, may_stand, read, read_kept, read_last, version_of, version_after};
 
 use lines::carry::Carry;
-use lines::listed::{Found, Line};
+use lines::listed::Line;
 use lines::{carry, listed};
 
-#[derive(Clone, Copy)]
+/// What a file has at a position.
+// Kept: three kinds with a name each; an option of an option says less of which nothing is meant.
+#[derive(Clone, Copy, Debug, PartialEq, Eq)]
 pub enum Seen {
+    /// A line that may stand there.
     Good(Line),
+    /// Bytes that are no such line.
     Bad,
+    /// It has ended.
     Nothing,
 }
 
 // The version that a line says: that of a header, 0 of any other.
+#[tactic(auto, unfolding(crate::specs::Seen::version_of))]
 fn version_of(line: Line) -> u32
     ensures { result ≡ version_of line }
 {
     match line {
         Line::Header(version) => version,
-        Line::Move(_) => 0,
-        Line::Arrived(_) => 0,
-        Line::Refused(_) => 0,
+        Line::Move(_) | Line::Arrived(_) | Line::Refused(_) => 0,
     }
 }
 
@@ -65,30 +69,29 @@ fn judged(good: bool, line: Line) -> Seen
     if good { Seen::Good(line) } else { Seen::Bad }
 }
 
-// What the bytes of a line are, without their newline, in a file of this version.
+/// What the bytes of a line are, without their newline, in a file of this version.
+#[tactic(auto, unfolding(crate::specs::Seen::read))]
 pub fn read(version: u32, s: &[u8]) -> Seen
     ensures { result ≡ read version s.now }
 {
     match listed::line_of(s, listed::count_digits(version)) {
-        Found::Known(line) => judged(may_stand(version, line), line),
-        Found::NoLine => Seen::Bad,
+        Some(line) => judged(may_stand(version, line), line),
+        None => Seen::Bad,
     }
 }
 
 // The same of a line of which at most 128 bytes are kept.
+#[tactic(auto, unfolding(crate::specs::Seen::read_kept))]
 fn read_kept(version: u32, c: Carry) -> Seen
     ensures { result ≡ read_kept version (held c) }
 {
-    if c.overlong {
-        return Seen::Bad;
+    match c {
+        Carry::Whole(front) => read(version, front.as_slice()),
+        Carry::Overlong => Seen::Bad,
     }
-    let n = carry::kept(c.len);
-    let bytes = c.bytes;
-    let z: usize = 0;
-    read(version, &bytes[z..n])
 }
 
-// What a line is that was cut, with the bytes that finish it.
+/// What a line is that was cut, with the bytes that finish it.
 pub fn read_finished(version: u32, c: Carry, s: &[u8]) -> Seen
     ensures { result ≡ read_kept version (keep (held c) s.now) }
 {
@@ -99,8 +102,8 @@ pub fn read_finished(version: u32, c: Carry, s: &[u8]) -> Seen
     }
 }
 
-// What a file has where its bytes end, after what is kept of the line that has begun. Where the end is a read that failed, the line that it
-// interrupts is bad. A file without line 1 is bad there.
+/// What a file has where its bytes end, after what is kept of the line that has begun. Where the end is a read that failed, the line that
+/// it interrupts is bad. A file without line 1 is bad there.
 pub fn read_last(version: u32, c: Carry, failed: bool) -> Seen
     ensures { result ≡ read_last failed version (held c) }
 {
@@ -117,7 +120,8 @@ pub fn read_last(version: u32, c: Carry, failed: bool) -> Seen
     }
 }
 
-// A file's version after a position: line 1 says it.
+/// A file's version after a position: line 1 says it.
+#[tactic(auto, unfolding(crate::specs::Seen::version_after))]
 pub fn version_after(version: u32, seen: Seen) -> u32
     ensures { result ≡ version_after version seen }
 {
@@ -126,7 +130,6 @@ pub fn version_after(version: u32, seen: Seen) -> u32
     }
     match seen {
         Seen::Good(line) => version_of(line),
-        Seen::Bad => 0,
-        Seen::Nothing => 0,
+        Seen::Bad | Seen::Nothing => 0,
     }
 }

@@ -1,8 +1,7 @@
 // What a position tells of what the two files have there, and how positions and differences are counted.
 ghost use Rattle.std.specs.Prelude.{◌≡◌, true};
-ghost use Rattle.compare.specs.Rule.{same_bytes};
 ghost use Rattle.compare.specs.Seen.{read};
-ghost use Rattle.compare.specs.Step.{same_move, told_moves, told_numbers, told_lines, tell};
+ghost use Rattle.compare.specs.Step.{told_moves, told_numbers, told_lines, tell};
 ghost use Rattle.compare.specs.Step.{up, is_difference, is_last, total_after, start, step_of};
 
 use crate::seen;
@@ -10,9 +9,9 @@ use crate::seen::Seen;
 use lines::compared::{Both, Told};
 use lines::listed::{Line, Moved};
 
-// Between two positions: the version of each file, the position that comes next, and how many differed before it. At 2^64 - 1 the last two
-// stay where they are.
-#[derive(Clone, Copy)]
+/// Between two positions: the version of each file, the position that comes next, and how many differed before it. At 2^64 - 1 the last two
+/// stay where they are.
+#[derive(Clone, Copy, Debug, PartialEq, Eq)]
 pub struct State {
     pub bench: u32,
     pub office: u32,
@@ -20,14 +19,14 @@ pub struct State {
     pub total: u64,
 }
 
-// What a position tells, and the state after it.
-#[derive(Clone, Copy)]
+/// What a position tells, and the state after it.
+#[derive(Clone, Copy, Debug, PartialEq, Eq)]
 pub struct Step {
     pub told: Told,
     pub next: State,
 }
 
-// Before line 1.
+/// Before line 1.
 pub fn start() -> State
     ensures { result ≡ start }
 {
@@ -39,18 +38,11 @@ pub fn start() -> State
     }
 }
 
-// Whether two steps are the same in the count and in every bit.
-fn is_same_move(a: Moved, b: Moved) -> bool
-    ensures { result ≡ same_move a b }
-{
-    (a.count == b.count) & (a.x == b.x) & (a.y == b.y) & (a.z == b.z)
-}
-
 // Two steps.
 fn told_moves(position: u64, bench: Moved, office: Moved) -> Told
     ensures { result ≡ told_moves position bench office }
 {
-    if is_same_move(bench, office) {
+    if bench == office {
         Told::Same
     } else {
         Told::Moves(Both {
@@ -73,79 +65,54 @@ fn told_numbers(position: u64, bench: u32, office: u32) -> Told
 }
 
 // Two good lines. Two headers are no difference, whatever their versions.
+#[tactic(auto, unfolding(crate::specs::Step::told_lines))]
 fn told_lines(position: u64, bench: Line, office: Line) -> Told
     ensures { result ≡ told_lines position bench office }
 {
-    match bench {
-        Line::Header(_) => match office {
-            Line::Header(_) => Told::Same,
-            _ => Told::Differs(position),
-        },
-        Line::Move(b) => match office {
-            Line::Move(o) => told_moves(position, b, o),
-            _ => Told::Differs(position),
-        },
-        Line::Arrived(b) => match office {
-            Line::Arrived(o) => told_numbers(position, b, o),
-            _ => Told::Differs(position),
-        },
-        Line::Refused(b) => match office {
-            Line::Refused(o) => told_numbers(position, b, o),
-            _ => Told::Differs(position),
-        },
+    match (bench, office) {
+        (Line::Header(_), Line::Header(_)) => Told::Same,
+        (Line::Move(b), Line::Move(o)) => told_moves(position, b, o),
+        (Line::Arrived(b), Line::Arrived(o)) => told_numbers(position, b, o),
+        (Line::Refused(b), Line::Refused(o)) => told_numbers(position, b, o),
+        _ => Told::Differs(position),
     }
 }
 
 // What a position tells. A bad line on either side is a refusal; after the last line of both comes the total.
+#[tactic(auto, unfolding(crate::specs::Step::tell))]
 fn tell(position: u64, total: u64, bench: Seen, office: Seen) -> Told
     ensures { result ≡ tell position total bench office }
 {
-    match bench {
-        Seen::Bad => Told::Refused(position),
-        Seen::Good(b) => match office {
-            Seen::Bad => Told::Refused(position),
-            Seen::Good(o) => told_lines(position, b, o),
-            Seen::Nothing => Told::Differs(position),
-        },
-        Seen::Nothing => match office {
-            Seen::Bad => Told::Refused(position),
-            Seen::Good(_) => Told::Differs(position),
-            Seen::Nothing => Told::Total(total),
-        },
+    match (bench, office) {
+        (Seen::Bad, _) | (_, Seen::Bad) => Told::Refused(position),
+        (Seen::Good(b), Seen::Good(o)) => told_lines(position, b, o),
+        (Seen::Nothing, Seen::Nothing) => Told::Total(total),
+        _ => Told::Differs(position),
     }
 }
 
 // One more, up to 2^64 - 1.
+#[tactic(auto, unfolding(crate::specs::Step::up))]
 fn up(n: u64) -> u64
     ensures { result ≡ up n }
 {
-    if n < u64::MAX { n + 1 } else { n }
+    n.saturating_add(1)
 }
 
 // Whether a position differs: once, however many coordinates do.
+#[tactic(auto, unfolding(crate::specs::Step::is_difference))]
 fn is_difference(told: Told) -> bool
     ensures { result ≡ is_difference told }
 {
-    match told {
-        Told::Same => false,
-        Told::Differs(_) => true,
-        Told::Moves(_) => true,
-        Told::Refused(_) => false,
-        Told::Total(_) => false,
-    }
+    matches!(told, Told::Differs(_) | Told::Moves(_))
 }
 
-// Whether nothing more is told: after a refusal and after the total.
+/// Whether nothing more is told: after a refusal and after the total.
+#[tactic(auto, unfolding(crate::specs::Step::is_last))]
 pub fn is_last(told: Told) -> bool
     ensures { result ≡ is_last told }
 {
-    match told {
-        Told::Same => false,
-        Told::Differs(_) => false,
-        Told::Moves(_) => false,
-        Told::Refused(_) => true,
-        Told::Total(_) => true,
-    }
+    matches!(told, Told::Refused(_) | Told::Total(_))
 }
 
 // The total after a position.
@@ -159,7 +126,7 @@ fn total_after(total: u64, told: Told) -> u64
     }
 }
 
-// One position, by what the two files have there.
+/// One position, by what the two files have there.
 pub fn position(st: State, bench: Seen, office: Seen) -> Step
     ensures { result ≡ step_of st bench office }
 {
@@ -175,33 +142,14 @@ pub fn position(st: State, bench: Seen, office: Seen) -> Step
     }
 }
 
-// Whether two lines have the same bytes.
-fn is_same(a: &[u8], b: &[u8]) -> bool
-    ensures { result ≡ same_bytes a.now b.now }
-{
-    if a.len() != b.len() {
-        return false;
-    }
-    let mut same = true;
-    let mut i: usize = 0;
-    while i < a.len() {
-        same = same & (a[i] == b[i]);
-        i += 1;
-    }
-    same
-}
-
 // Whether two lines are the same in files of the same version: then one of them need not be read.
 fn is_twice(st: State, bench: &[u8], office: &[u8]) -> bool
     ensures { result ≡ true → (st.bench ≡ st.office) × (bench.now ≡ office.now) }
 {
-    if st.bench != st.office {
-        return false;
-    }
-    is_same(bench, office)
+    st.bench == st.office && bench == office
 }
 
-// One position where both files have a line, by their bytes.
+/// One position where both files have a line, by their bytes.
 pub fn lines(st: State, bench: &[u8], office: &[u8]) -> Step
     ensures { result ≡ step_of st (read st.bench bench.now) (read st.office office.now) }
 {

@@ -1,7 +1,7 @@
 -- Request K10's laws. One foot: "Two calls in which a step goes on, and which agree on one foot's start, last and target points, on the
 -- progress, the lifted tripod and the command, give that foot the same next point"; with K12, and its last mark, the same mark. A step ends
 -- at its time. A plan and rest keep the last feet, and so their joints. What is handed down is within. Assumes nothing.
-use Rattle.std.specs.Prelude.{◌≡◌, ℕ, suc, ◌≤◌, true, false, eqb, ◌⊎◌, [], length}
+use Rattle.std.specs.Prelude.{◌≡◌, ℕ, suc, ◌≤◌, true, false, eqb, ◌⊎◌, [], length, Some, None, Result, Ok, Err}
 use mathlib.Core.Path.{refl, sym, ap, ap₂, subst, ◌∙◌}
 use mathlib.Core.Bool.{true≢false}
 use mathlib.Core.Logic.{inl, inr}
@@ -11,9 +11,9 @@ use Rattle.numbers.specs.Told.{Told, refused}
 use Rattle.numbers.proofs.Flags.{by_test, where_true, where_false, chosen}
 use Rattle.numbers.specs.Limits.{foot_limit}
 use Rattle.legs.specs.Legs.{Leg, point, points, foot, lifted, whole, every, finite_feet, permitted_feet}
-use Rattle.legs.specs.declared.Points.{Points}
-use Rattle.legs.specs.declared.Feet.{Feet}
-use Rattle.legs.specs.declared.Joints.{Joints}
+use Rattle.legs.specs.Legs.{Points}
+use Rattle.legs.specs.Legs.{Feet}
+use Rattle.legs.specs.Legs.{Joints}
 use Rattle.legs.proofs.OnePass.{in_feet_row}
 use Rattle.moves.specs.Distance.{same}
 use Rattle.commands.specs.Command.{command_refusal, default_command}
@@ -27,7 +27,6 @@ use Rattle.commands.proofs.OnePass.{command_let_in}
 use Rattle.steps.specs.Progress.{even_progress}
 use Rattle.steps.specs.Next.{even_last, next_even}
 use Rattle.steps.specs.declared.Lift.{Lift}
-use Rattle.steps.specs.declared.NextEven.TheVariants.{Step as EvenStep, NoStep}
 use Rattle.steps.proofs.Taken.{even_step_taken}
 use Rattle.steps.proofs.Told.{even_refusal}
 use Rattle.steps.proofs.FootByFoot.{one_foot_alone}
@@ -37,6 +36,7 @@ use Rattle.planner.specs.Entry.{plan_refusal, planned_feet}
 use Rattle.planner.proofs.LetIn.{plan_let_in}
 use Rattle.joints.specs.Configured.{finite_joints}
 use Rattle.joints.specs.Answers.{given_joints, leg_refused}
+use Rattle.joints.specs.declared.refusal.SolverRefusal.{SolverRefusal}
 use Rattle.joints.specs.Inverse.{all_angles, ik_told}
 use Rattle.joints.proofs.Within.{HeldConfiguration}
 use Rattle.joints.proofs.Finite.{joints_finite}
@@ -51,8 +51,7 @@ use Rattle.conductor.specs.declared.State.{State}
 use Rattle.conductor.specs.Answers.{Kind, step, planned, rests}
 use Rattle.conductor.specs.declared.Reply.{Reply}
 use Rattle.conductor.specs.declared.Reply.TheVariants.{Step as SaysStep, Planned as SaysPlanned, Rests as SaysRests}
-use Rattle.conductor.specs.declared.Reply.TheVariants.{Refused, LegRefused}
-use Rattle.conductor.proofs.Calls.{reply, told_of}
+use Rattle.conductor.proofs.Calls.{refusal_numbered, reply, told_of}
 use Rattle.conductor.proofs.Door.{same_refusal}
 use Rattle.conductor.proofs.Accepted.{Accepted, Stepped, PlannedNext, Rested, by_kind, told_as, after_is}
 use Rattle.conductor.proofs.Accepted.{joints_told, none_refused, last_permitted}
@@ -68,39 +67,39 @@ module _ (s : State) (elapsed : Time) (h : Accepted s elapsed) where
   joints_after = all_angles (state_after s elapsed).last (state_after s elapsed).configuration
 
   -- whatever the kind, the joints are those of the last feet after the call
-  pub reply_is : (r : Reply) → told r ≡ conduct_told s elapsed → r ≡ reply o.kind (state_after s elapsed).last joints_after
+  pub reply_is : (r : Result Reply SolverRefusal) → told r ≡ conduct_told s elapsed
+      → r ≡ Ok (reply o.kind (state_after s elapsed).last joints_after)
   reply_is r e =
       told_loses_nothing r _
       (e
       ∙ told_as s elapsed h
       ∙ sym (told_of o.kind o.state.last (all_angles o.state.last o.state.configuration)))
-      ∙ ap (λ (t : State). reply o.kind t.last (all_angles t.last t.configuration)) (sym (after_is s elapsed h))
+      ∙ ap (λ (t : State). Ok (reply o.kind t.last (all_angles t.last t.configuration))) (sym (after_is s elapsed h))
+
+  pub given_is : (r : Reply) → told (Ok r) ≡ conduct_told s elapsed → r ≡ reply o.kind (state_after s elapsed).last joints_after
+  given_is r e = let is = reply_is (Ok r) e in cc
 
 -- ---- a call that says a step
 abbrev tag : Reply → ℕ
 tag (SaysStep f j) = 0
 tag (SaysPlanned j) = 1
 tag (SaysRests j) = 2
-tag (Refused n) = 3
-tag (LegRefused n k) = 4
 
 -- the feet of a step, and of any other reply these
 abbrev feet_said : Feet → Reply → Feet
 feet_said d (SaysStep f j) = f
 feet_said d (SaysPlanned j) = d
 feet_said d (SaysRests j) = d
-feet_said d (Refused n) = d
-feet_said d (LegRefused n k) = d
 
-module _ (s : State) (elapsed : Time) (f : Feet) (j : Joints) (e : told (SaysStep f j) ≡ conduct_told s elapsed) where
+module _ (s : State) (elapsed : Time) (f : Feet) (j : Joints) (e : told (Ok (SaysStep f j)) ≡ conduct_told s elapsed) where
   pub step_accepted : Accepted s elapsed
   unfolding told
   step_accepted = ap (λ (t : Told). eqb t.number 0) (sym e)
 
   same_reply : SaysStep f j ≡ reply (moved s elapsed).kind (state_after s elapsed).last (joints_after s elapsed step_accepted)
-  same_reply = reply_is s elapsed step_accepted (SaysStep f j) e
+  same_reply = given_is s elapsed step_accepted (SaysStep f j) e
 
-  pub step_taken : (next_even (even_of s) elapsed ≡ EvenStep f (even_last (even_of s) f)) × (moved s elapsed ≡ onward step (with_last s f))
+  pub step_taken : (next_even (even_of s) elapsed ≡ Some (f, even_last (even_of s) f)) × (moved s elapsed ≡ onward step (with_last s f))
   step_taken = go (by_kind s elapsed)
     where
       other : {k : ℕ} → 0 ≡ suc k → ⊥
@@ -112,12 +111,12 @@ module _ (s : State) (elapsed : Time) (f : Feet) (j : Joints) (e : told (SaysSte
           same_reply ∙ ap (λ (m : Kind). reply m (state_after s elapsed).last (joints_after s elapsed step_accepted)) i
 
       go : Stepped s elapsed ⊎ (PlannedNext s elapsed ⊎ Rested s elapsed)
-          → (next_even (even_of s) elapsed ≡ EvenStep f (even_last (even_of s) f)) × (moved s elapsed ≡ onward step (with_last s f))
+          → (next_even (even_of s) elapsed ≡ Some (f, even_last (even_of s) f)) × (moved s elapsed ≡ onward step (with_last s f))
       go (inl (g, n, m)) =
           let is : f ≡ g =
           ap (feet_said f) (as_kind step (ap (λ (x : Onward). x.kind) m))
           ∙ ap (λ (t : State). t.last) (after_step s elapsed step_accepted g m) in (
-            n ∙ ap (λ (x : Feet). EvenStep x (even_last (even_of s) x)) (sym is),
+            n ∙ ap (λ (x : Feet). Some (x, even_last (even_of s) x)) (sym is),
             m ∙ ap (λ (x : Feet). onward step (with_last s x)) (sym is),
           )
       go (inr (inl (n, b, m))) = absurd (other (ap tag (as_kind planned (ap (λ (x : Onward). x.kind) m))))
@@ -145,7 +144,7 @@ module _ (s : State) (elapsed : Time) (f : Feet) (j : Joints) (e : told (SaysSte
         even_all_there (even_of s) (even_last (even_of s) f) elapsed f (elapsed_permitted_lem s elapsed step_accepted)
         (period_permitted_lem s elapsed step_accepted) up step_taken.0 target_finite
 
-    pub no_step_follows : (later : Time) → next_even (even_of (state_after s elapsed)) later ≡ NoStep
+    pub no_step_follows : (later : Time) → next_even (even_of (state_after s elapsed)) later ≡ None
     no_step_follows later =
         ap (λ (t : State). next_even (even_of t) later) step_sets_last
         ∙ none_after (even_of s) (even_last (even_of s) f) elapsed f (elapsed_permitted_lem s elapsed step_accepted)
@@ -153,7 +152,7 @@ module _ (s : State) (elapsed : Time) (f : Feet) (j : Joints) (e : told (SaysSte
 
 -- ---- ONE FOOT: two calls that say a step, and agree on one foot's start, last and target points, on progress, lifted tripod and command
 module _ (s s' : State) (e e' : Time) (f f' : Feet) (j j' : Joints) (l : Leg)
-    (says : told (SaysStep f j) ≡ conduct_told s e) (says' : told (SaysStep f' j') ≡ conduct_told s' e')
+    (says : told (Ok (SaysStep f j)) ≡ conduct_told s e) (says' : told (Ok (SaysStep f' j')) ≡ conduct_told s' e')
     (start : foot s.start l ≡ foot s'.start l) (last : foot s.last l ≡ foot s'.last l)
     (target : foot s.target l ≡ foot s'.target l)
     (progress : even_progress e s.command.step_time ≡ even_progress e' s'.command.step_time)
@@ -214,18 +213,19 @@ module _ (s : State) (elapsed later : Time) (first : Accepted s elapsed) (second
 
 -- ---- the joints that a call hands over
 -- those of a reply, and of a refusal these
-abbrev pub joints_said : Joints → Reply → Joints
-joints_said d (SaysStep f j) = j
-joints_said d (SaysPlanned j) = j
-joints_said d (SaysRests j) = j
-joints_said d (Refused n) = d
-joints_said d (LegRefused n k) = d
+abbrev pub joints_said : Joints → Result Reply SolverRefusal → Joints
+joints_said d (Ok (SaysStep f j)) = j
+joints_said d (Ok (SaysPlanned j)) = j
+joints_said d (Ok (SaysRests j)) = j
+joints_said d (Err r) = d
 
 module _ (s : State) (elapsed : Time) (h : Accepted s elapsed) where
-  pub said_joints : (r : Reply) (d : Joints) → told r ≡ conduct_told s elapsed → joints_said d r ≡ joints_after s elapsed h
+  pub said_joints : (r : Result Reply SolverRefusal) (d : Joints) → told r ≡ conduct_told s elapsed → joints_said d r
+      ≡ joints_after s elapsed h
   said_joints r d e = ap (joints_said d) (reply_is s elapsed h r e) ∙ of_reply (moved s elapsed).kind
     where
-      of_reply : (k : Kind) → joints_said d (reply k (state_after s elapsed).last (joints_after s elapsed h)) ≡ joints_after s elapsed h
+      of_reply : (k : Kind) → joints_said d (Ok (reply k (state_after s elapsed).last (joints_after s elapsed h)))
+          ≡ joints_after s elapsed h
       of_reply step = refl
       of_reply planned = refl
       of_reply rests = refl
@@ -282,12 +282,11 @@ module _ (s : State) (elapsed : Time) where
       some_floats planned f j h = too_many 17 (ap length h)
       some_floats rests f j h = too_many 17 (ap length h)
 
-  pub refusal_said : (n : ℕ) → told (Refused n) ≡ conduct_told s elapsed → eqb n 0 ≡ false
-  unfolding told
+  pub refusal_said : (n : ℕ) → refused n ≡ conduct_told s elapsed → eqb n 0 ≡ false
   refusal_said n e = no_floats (refused n) refl e
 
-  pub leg_said : (n k : ℕ) → told (LegRefused n k) ≡ conduct_told s elapsed → (k ≤ 5) × (n ≤ 8) × (eqb n 0 ≡ false)
-  unfolding told conduct_told handed
+  pub leg_said : (n k : ℕ) → leg_refused n k ≡ conduct_told s elapsed → (k ≤ 5) × (n ≤ 8) × (eqb n 0 ≡ false)
+  unfolding conduct_told handed
   leg_said n k e =
       let m = state_refusal s elapsed in
       let o = moved s elapsed in
@@ -346,8 +345,8 @@ module _ (s : State) where
 
 -- ---- what a call says settles the state that it leaves
 module _ (s : State) (elapsed : Time) where
-  as_tagged : (r : Reply) → Accepted s elapsed → told r ≡ conduct_told s elapsed → tag r ≡ kind_mark (moved s elapsed).kind
-  as_tagged r h e = ap tag (reply_is s elapsed h r e) ∙ of_kind (moved s elapsed).kind
+  as_tagged : (r : Reply) → Accepted s elapsed → told (Ok r) ≡ conduct_told s elapsed → tag r ≡ kind_mark (moved s elapsed).kind
+  as_tagged r h e = ap tag (given_is s elapsed h r e) ∙ of_kind (moved s elapsed).kind
     where
       of_kind : (k : Kind) → tag (reply k (state_after s elapsed).last (joints_after s elapsed h)) ≡ kind_mark k
       of_kind step = refl
@@ -367,28 +366,27 @@ module _ (s : State) (elapsed : Time) where
       go (inr (inl (i, b, m))) = ap (λ (x : Onward). x.state) m ∙ if_planned (marked planned (ap (λ (x : Onward). x.kind) m))
       go (inr (inr (i, b, m))) = ap (λ (x : Onward). x.state) m ∙ if_rests (marked rests (ap (λ (x : Onward). x.kind) m))
 
-  pub plan_said : (j : Joints) → told (SaysPlanned j) ≡ conduct_told s elapsed → state_after s elapsed ≡ planned_state s
+  pub plan_said : (j : Joints) → told (Ok (SaysPlanned j)) ≡ conduct_told s elapsed → state_after s elapsed ≡ planned_state s
   unfolding told
   plan_said j e =
       let h : Accepted s elapsed = ap (λ (t : Told). eqb t.number 0) (sym e) in
       left_by 1 (planned_state s) h (as_tagged (SaysPlanned j) h e) (λ i. omega (arith, i)) (λ i. refl) (λ i. absurd (omega (arith, i)))
 
-  pub rest_said : (j : Joints) → told (SaysRests j) ≡ conduct_told s elapsed → state_after s elapsed ≡ s
+  pub rest_said : (j : Joints) → told (Ok (SaysRests j)) ≡ conduct_told s elapsed → state_after s elapsed ≡ s
   unfolding told
   rest_said j e =
       let h : Accepted s elapsed = ap (λ (t : Told). eqb t.number 0) (sym e) in
       left_by 2 s h (as_tagged (SaysRests j) h e) (λ i. omega (arith, i)) (λ i. absurd (omega (arith, i))) (λ i. refl)
 
-  refused_so : (t : Told) → t ≡ conduct_told s elapsed → eqb t.number 0 ≡ false → s ≡ state_after s elapsed
-  refused_so t e some = sym (refusal_leaves s elapsed (ap (λ (a : Told). eqb a.number 0) (sym e) ∙ some))
+  refused_so : (r : SolverRefusal) → told (Err r) ≡ conduct_told s elapsed → s ≡ state_after s elapsed
+  refused_so r e = sym (refusal_leaves s elapsed (ap (λ (a : Told). eqb a.number 0) (sym e) ∙ refusal_numbered r))
 
-  pub said_settles : (r : Reply) → told r ≡ conduct_told s elapsed → after_reply s r ≡ state_after s elapsed
+  pub said_settles : (r : Result Reply SolverRefusal) → told r ≡ conduct_told s elapsed → after_reply s r ≡ state_after s elapsed
   unfolding told
-  said_settles (SaysStep f j) e = sym (step_sets_last s elapsed f j e)
-  said_settles (SaysPlanned j) e = sym (plan_said j e)
-  said_settles (SaysRests j) e = sym (rest_said j e)
-  said_settles (Refused n) e = refused_so (refused n) e (refusal_said s elapsed n e)
-  said_settles (LegRefused n k) e = refused_so (leg_refused n k) e (leg_said s elapsed n k e).2
+  said_settles (Ok (SaysStep f j)) e = sym (step_sets_last s elapsed f j e)
+  said_settles (Ok (SaysPlanned j)) e = sym (plan_said j e)
+  said_settles (Ok (SaysRests j)) e = sym (rest_said j e)
+  said_settles (Err r) e = refused_so r e
 
 -- a fresh state lifts LRL, stands where it is relaxed, and its command stands still
 module _ (f : Feet) (c : Configuration) where

@@ -1,16 +1,16 @@
--- What is told of a reply. The first mark of one that is not refused is its kind: 0 a step, with the marks of its feet behind, 1 a plan, 2
+-- What is told of a call. The first mark of one that is not refused is its kind: 0 a step, with the marks of its feet behind, 1 a plan, 2
 -- rest; its values are the feet of a step, then eighteen joint angles.
 use Rattle.std.specs.Prelude.{ℕ, List, [], ◌∷◌, ◌++◌, ◌==◌}
-use Rattle.std.specs.Prelude.{Float}
-use Rattle.numbers.specs.Told.{Told, refused, given, choose}
+use Rattle.std.specs.Prelude.{Float, Result}
+use Rattle.numbers.specs.Told.{Told, given, choose}
 use Rattle.legs.specs.Legs.{row, foot, angles, coordinates, joints_of, values}
 use Rattle.legs.specs.Answers.{lifts}
-use Rattle.legs.specs.declared.Feet.{Feet}
-use Rattle.legs.specs.declared.Joints.{Joints}
-use Rattle.joints.specs.Answers.{leg_refused}
+use Rattle.legs.specs.Legs.{Feet}
+use Rattle.legs.specs.Legs.{Joints}
+use Rattle.joints.specs.Answers.{told_by}
+use Rattle.joints.specs.declared.refusal.SolverRefusal.{SolverRefusal}
 use Rattle.conductor.specs.declared.Reply.{Reply}
 use Rattle.conductor.specs.declared.Reply.TheVariants.{Step as SaysStep, Planned as SaysPlanned, Rests as SaysRests}
-use Rattle.conductor.specs.declared.Reply.TheVariants.{Refused, LegRefused}
 
 -- what a call does that nothing refuses
 pub data Kind : Type 0 where
@@ -39,9 +39,10 @@ with_kind k f t = choose (t.number == 0) (given (kind_marks k f ++ t.marks) (kin
 abbrev pub given_call : Kind → Feet → Joints → Told
 given_call k f j = given (kind_marks k f) (kind_values k f ++ values joints_of (row (angles j)))
 
-unfoldable pub told : Reply → Told
-told (SaysStep f j) = given_call step f j
-told (SaysPlanned j) = given (kind_mark planned ∷ []) (values joints_of (row (angles j)))
-told (SaysRests j) = given (kind_mark rests ∷ []) (values joints_of (row (angles j)))
-told (Refused n) = refused n
-told (LegRefused n k) = leg_refused n k
+abbrev pub given_reply : Reply → Told
+given_reply (SaysStep f j) = given_call step f j
+given_reply (SaysPlanned j) = given (kind_mark planned ∷ []) (values joints_of (row (angles j)))
+given_reply (SaysRests j) = given (kind_mark rests ∷ []) (values joints_of (row (angles j)))
+
+unfoldable pub told : Result Reply SolverRefusal → Told
+told r = told_by given_reply r

@@ -4,7 +4,7 @@ use Rattle.std.specs.Prelude.{ℕ, Bool, ◌&&◌, [], ◌∷◌}
 use Rattle.numbers.specs.Door.{unless, first_of}
 use Rattle.numbers.specs.Limits.{foot_limit}
 use Rattle.legs.specs.Legs.{finite_feet, permitted_feet}
-use Rattle.legs.specs.declared.Feet.{Feet}
+use Rattle.legs.specs.Legs.{Feet}
 use Rattle.commands.specs.Constants.{nought}
 use Rattle.commands.specs.Command.{finite_command, permitted_command, default_command}
 use Rattle.commands.specs.Tripods.{inverted}
@@ -13,7 +13,7 @@ use Rattle.commands.specs.declared.Time.{Time}
 use Rattle.commands.specs.declared.Tripod.TheVariants.{LRL}
 use Rattle.commands.specs.declared.MoveCommand.{MoveCommand}
 use Rattle.steps.specs.Refusals.{timely}
-use Rattle.steps.specs.declared.EvenStepIterator.{EvenStepIterator}
+use Rattle.steps.specs.Next.{EvenStepIterator}
 use Rattle.planner.specs.Entry.{planned_feet}
 use Rattle.joints.specs.Configured.{finite_configuration, permitted_configuration}
 use Rattle.joints.specs.declared.configuration.Configuration.{Configuration}

@@ -12,15 +12,14 @@ ghost use Rattle.conductor.specs.How.{lift_under, made_under, end_kind};
 
 use crate::Reply;
 use commands::{MoveCommand, Time, Tripod};
-use joints::Solution;
+use joints::SolverRefusal;
 use joints::configuration::Configuration;
-use joints::unchecked::LegsSolved;
-use legs::Feet;
-use numbers::door;
+use legs::{Feet, Joints};
+use numbers::{Refusal, door};
 use steps::Lift;
-use steps::unchecked::{Course, Made};
+use steps::unchecked::Course;
 
-// Whether what the step does not look at itself is in the table: the relaxed feet, the command's floats, the configuration.
+/// Whether what the step does not look at itself is in the table: the relaxed feet, the command's floats, the configuration.
 pub fn others_permitted(relaxed: Feet, command: MoveCommand, configuration: Configuration) -> bool
     ensures { result ≡ (permitted_feet foot_limit relaxed && permitted_command command && permitted_configuration configuration) }
 {
@@ -41,60 +40,60 @@ fn lift_under(lifted: Tripod, command: MoveCommand) -> Lift
     }
 }
 
-// The step of a course under a command, at even pace and in the command's step time.
-pub fn made(course: Course, lifted: Tripod, command: MoveCommand, elapsed: Time) -> Made
+/// The step of a course under a command, at even pace and in the command's step time: its feet, or none where no leg moves any more.
+pub fn made(
+    course: Course,
+    lifted: Tripod,
+    command: MoveCommand,
+    elapsed: Time,
+) -> Result<Option<Feet>, Refusal>
     ensures { result ≡ made_under course lifted command elapsed }
 {
-    let period = command.step_time;
-    steps::unchecked::even_made(course, period, lift_under(lifted, command), elapsed)
+    let lift = lift_under(lifted, command);
+    steps::unchecked::even_made(course, command.step_time, lift, elapsed)
 }
 
+// Kept: that the configuration is permitted stands three times below. A type for it would be built in two places and read in three, and
+// hold 41 floats once more on a board.
+
 // The joints of these feet, where they are in the table; the configuration is.
-fn solved(feet: Feet, configuration: Configuration) -> Solution
+fn solved(feet: Feet, configuration: Configuration) -> Result<Joints, SolverRefusal>
     requires { permitted_configuration configuration ≡ true }
     ensures { told_joints result ≡ ik_told feet configuration }
 {
     if legs::unchecked::feet_permitted(numbers::limits::foot_limit(), feet) {
-        match joints::unchecked::calculate_ik(feet, configuration) {
-            LegsSolved::Joints(joints) => Solution::Solved(joints),
-            LegsSolved::Refused(number, leg) => Solution::LegRefused(number, leg),
-        }
+        joints::unchecked::calculate_ik(feet, configuration)
     } else {
-        Solution::Refused(door::outside(legs::unchecked::feet_finite(feet)))
+        Err(SolverRefusal::from(door::outside(legs::unchecked::feet_finite(feet))))
     }
 }
 
-// A step goes on to these feet, unless they are refused.
-pub fn stepped(feet: Feet, configuration: Configuration) -> Reply
+/// A step goes on to these feet, unless they are refused.
+pub fn stepped(feet: Feet, configuration: Configuration) -> Result<Reply, SolverRefusal>
     requires { permitted_configuration configuration ≡ true }
     ensures { told result ≡ with_kind step feet (ik_told feet configuration) }
 {
-    match solved(feet, configuration) {
-        Solution::Solved(joints) => Reply::Step(feet, joints),
-        Solution::Refused(number) => Reply::Refused(number),
-        Solution::LegRefused(number, leg) => Reply::LegRefused(number, leg),
-    }
+    Ok(Reply::Step(feet, solved(feet, configuration)?))
 }
 
-// Where no leg moves any more: the next step is planned if the command should move, else all rests; unless the last feet are refused.
-pub fn ended(last: Feet, command: MoveCommand, configuration: Configuration) -> Reply
+/// Where no leg moves any more: the next step is planned if the command should move, else all rests; unless the last feet are refused.
+pub fn ended(
+    last: Feet,
+    command: MoveCommand,
+    configuration: Configuration,
+) -> Result<Reply, SolverRefusal>
     requires { permitted_configuration configuration ≡ true }
     ensures { told result ≡ with_kind (end_kind command) last (ik_told last configuration) }
 {
-    match solved(last, configuration) {
-        Solution::Solved(joints) => {
-            if commands::unchecked::should_move(command) {
-                Reply::Planned(joints)
-            } else {
-                Reply::Rests(joints)
-            }
-        }
-        Solution::Refused(number) => Reply::Refused(number),
-        Solution::LegRefused(number, leg) => Reply::LegRefused(number, leg),
+    let joints = solved(last, configuration)?;
+    if commands::unchecked::should_move(command) {
+        Ok(Reply::Planned(joints))
+    } else {
+        Ok(Reply::Rests(joints))
     }
 }
 
-// Where the feet go next, by this tripod.
+/// Where the feet go next, by this tripod.
 pub fn next_target(last: Feet, relaxed: Feet, lifted: Tripod, command: MoveCommand) -> Feet
     ensures { result ≡ planned_feet last relaxed lifted command }
 {

@@ -6,6 +6,7 @@ use mathlib.Core.List.{List, [], ◌∷◌, ◌++◌}
 use Prim.Native.Nat.{ℕ, zero, suc}
 use lib.Ieee.{Float}
 use lib.ListN.{length, get_or}
+use Rattle.std.specs.Prelude.{None}
 use Rattle.numbers.specs.Told.{given, choose, answer}
 use Rattle.numbers.proofs.OneAnswer.{SameButMarks, same_answers}
 use Rattle.legs.specs.Legs.{Leg, row, point, six_points, points, foot, lifted, whole, marked, origin, unused, nowhere, coordinates, values}
@@ -17,21 +18,19 @@ use Rattle.legs.specs.Merge.{merged, merge_refusal, merge_told}
 use Rattle.legs.specs.Select.{among, named, in_six_places, selected, select_refusal, select_told}
 use Rattle.legs.specs.Update.{place, updated}
 use Rattle.legs.specs.declared.Point.{Point}
-use Rattle.legs.specs.declared.Points.{Points}
+use Rattle.legs.specs.Legs.{Points}
 use Rattle.legs.specs.declared.Foot.{Foot}
-use Rattle.legs.specs.declared.Feet.{Feet}
+use Rattle.legs.specs.Legs.{Feet}
 use Rattle.legs.proofs.Marks.{points_of_merge}
 use Rattle.rows.specs.Rows.{every_point, update_refusal, update_told}
 use Rattle.rows.proofs.Marks.{points_of_update}
 use Rattle.moves.specs.Distance.{max_horizontal_distance}
-use Rattle.moves.specs.Moving.{move_points_towards, keeping, move_feet_towards}
-use Rattle.moves.specs.Answers.{of_moving_feet, lifts_of_moving, told_feet_step, told_next_feet}
+use Rattle.moves.specs.Moving.{PointsStep, move_points_towards, keeping, move_feet_towards}
+use Rattle.moves.specs.Answers.{MovingFeet, of_moving_feet, lifts_of_moving, told_feet_step, told_next_by}
 use Rattle.moves.specs.Refusals.{move_feet_refusal, longest_refusal}
 use Rattle.moves.specs.Entries.{move_feet_told, longest_told}
-use Rattle.moves.specs.Iterators.{moving_feet, after_feet, next_feet, feet_iter_told, next_feet_told}
-use Rattle.moves.specs.declared.MovingFeet.{MovingFeet}
-use Rattle.moves.specs.declared.unchecked.PointsStep.{PointsStep}
-use Rattle.moves.specs.declared.unchecked.PointsStep.TheVariants.{Moved, Arrived}
+use Rattle.moves.specs.Iterators.{moving_feet, after, next_feet, feet_iter_told, next_feet_told}
+use Rattle.moves.specs.declared.Step.TheVariants.{Moved, Arrived}
 use Rattle.walks.specs.Walk.{WalkFeet}
 use Rattle.walks.specs.Answers.{walk_feet_refusal, Counts}
 use Rattle.commands.specs.declared.Time.{Time}
@@ -39,18 +38,15 @@ use Rattle.commands.specs.declared.Tripod.{Tripod}
 use Rattle.commands.specs.declared.MoveCommand.{MoveCommand}
 use Rattle.steps.specs.Refusals.{step_refusal, lift_refusal, timely}
 use Rattle.steps.specs.Marks.{stepped}
-use Rattle.steps.specs.Next.{step_ended, step_lift, step_after, timed_after, even_after, by_time}
+use Rattle.steps.specs.Next.{TimedStepIterator, EvenStepIterator, step_ended, step_lift, step_after, timed_after, even_after, by_time}
 use Rattle.steps.specs.Next.{timed_at, even_at, next_step, next_timed, next_even}
 use Rattle.steps.specs.Progress.{step_progress, timed_progress, even_progress}
 use Rattle.steps.specs.Shift.{shift_legs}
 use Rattle.commands.specs.Times.{period_permitted}
-use Rattle.steps.specs.Answers.{step_marks, step_values, lift_marks, lift_values, told_next_step, told_next_timed, told_next_even}
+use Rattle.steps.specs.Answers.{step_marks, step_values, lift_marks, lift_values, given_next_step, given_next_timed, given_next_even}
 use Rattle.steps.specs.Entries.{step_state, step_iter_told, next_step_told, timed_iter_told, next_timed_told, next_even_told}
 use Rattle.steps.specs.declared.Lift.{Lift}
 use Rattle.steps.specs.declared.StepIterator.{StepIterator}
-use Rattle.steps.specs.declared.TimedStepIterator.{TimedStepIterator}
-use Rattle.steps.specs.declared.EvenStepIterator.{EvenStepIterator}
-use Rattle.steps.specs.declared.NextStep.TheVariants.{NoStep}
 use Rattle.planner.specs.Entry.{plan_refusal, planned_feet, plan_told}
 use Rattle.joints.specs.Inverse.{ik_refusal, legs_told, ik_told}
 use Rattle.joints.specs.Strict.{strict_legs_told, strict_told}
@@ -122,7 +118,7 @@ all_spots t [] = true
 all_spots t (p ∷ ps) = t p && all_spots t ps
 
 every_spot : (t : Point → Bool) (ps : List Foot) → every_point t ps ≡ all_spots t (spots ps)
-unfolding every_point spots all_spots
+unfolding spots all_spots
 every_spot t [] = refl
 every_spot t (p ∷ ps) = ap (λ (b : Bool). t p.point && b) (every_spot t ps)
 
@@ -182,8 +178,8 @@ module _ (x y : Leg → Bool) (last target : Feet) (m : Float) where
 
   next_alike : (s : PointsStep)
       → SameButMarks
-      (told_next_feet (after_feet (moving_feet last target m) (keeping (lifted last) s)))
-      (told_next_feet (after_feet (moving_feet (remarked x last) (remarked y target) m) (keeping (lifted (remarked x last)) s)))
+      (told_next_by given_feet (after (moving_feet last target m) (keeping (lifted last) s)))
+      (told_next_by given_feet (after (moving_feet (remarked x last) (remarked y target) m) (keeping (lifted (remarked x last)) s)))
   next_alike (Moved p) = (refl, refl)
   next_alike (Arrived p) = (refl, refl)
 
@@ -192,8 +188,8 @@ module _ (x y : Leg → Bool) (last target : Feet) (m : Float) where
   unfolding next_feet_told next_feet move_feet_towards move_feet_refusal
   next_feet_lem =
       same_answers (move_feet_refusal last target m)
-      (told_next_feet (next_feet (moving_feet last target m)))
-      (told_next_feet (next_feet (moving_feet (remarked x last) (remarked y target) m)))
+      (told_next_by given_feet (next_feet (moving_feet last target m)))
+      (told_next_by given_feet (next_feet (moving_feet (remarked x last) (remarked y target) m)))
       (next_alike (move_points_towards (points last) (points target) m))
 
   pub longest : longest_told last target ≡ longest_told (remarked x last) (remarked y target)
@@ -265,8 +261,8 @@ module _ (x y z : Leg → Bool) where
 
   step_alike : (s : StepIterator) (over : Bool) (g : PointsStep)
       → SameButMarks
-      (told_next_step (choose over NoStep (step_after s g)))
-      (told_next_step (choose over NoStep (step_after (by_distance s) g)))
+      (given_next_step (choose over None (step_after s g)))
+      (given_next_step (choose over None (step_after (by_distance s) g)))
   unfolding stepped
   step_alike s true g = (refl, refl)
   step_alike s false (Moved p) = (refl, refl)
@@ -277,11 +273,11 @@ module _ (x y z : Leg → Bool) where
   next_step_lem s =
       let full = max_horizontal_distance (points s.start) (points s.target) in
       let progress = step_progress (max_horizontal_distance (points s.last) (points s.start)) s.max_move full in
-      same_answers (step_refusal s) (told_next_step (next_step s)) (told_next_step (next_step (by_distance s)))
+      same_answers (step_refusal s) (given_next_step (next_step s)) (given_next_step (next_step (by_distance s)))
       (step_alike s (step_ended full) (shift_legs (points s.start) (points s.last) (points s.target) (step_lift s) progress))
 
   timed_alike : (s : TimedStepIterator) (g : PointsStep)
-      → SameButMarks (told_next_timed (timed_after s g)) (told_next_timed (timed_after (timed s) g))
+      → SameButMarks (given_next_timed (timed_after s g)) (given_next_timed (timed_after (timed s) g))
   unfolding stepped
   timed_alike s (Moved p) = (refl, refl)
   timed_alike s (Arrived p) = (refl, refl)
@@ -291,12 +287,12 @@ module _ (x y z : Leg → Bool) where
   unfolding next_timed_told next_timed timed_at lift_refusal
   next_timed_lem s elapsed =
       same_answers (lift_refusal s.start s.last s.target s.lift (timely elapsed s.period))
-      (told_next_timed (next_timed s elapsed)) (told_next_timed (next_timed (timed s) elapsed))
+      (given_next_timed (next_timed s elapsed)) (given_next_timed (next_timed (timed s) elapsed))
       (timed_alike s
       (by_time (points s.start) (points s.last) (points s.target) s.lift (timed_progress elapsed s.period)))
 
   even_alike : (s : EvenStepIterator) (g : PointsStep) →
-      SameButMarks (told_next_even (even_after s g)) (told_next_even (even_after (even s) g))
+      SameButMarks (given_next_even (even_after s g)) (given_next_even (even_after (even s) g))
   unfolding stepped
   even_alike s (Moved p) = (refl, refl)
   even_alike s (Arrived p) = (refl, refl)
@@ -305,7 +301,7 @@ module _ (x y z : Leg → Bool) where
   unfolding next_even_told next_even even_at lift_refusal
   next_even_lem s elapsed =
       same_answers (lift_refusal s.start s.last s.target s.lift (timely elapsed s.period))
-      (told_next_even (next_even s elapsed)) (told_next_even (next_even (even s) elapsed))
+      (given_next_even (next_even s elapsed)) (given_next_even (next_even (even s) elapsed))
       (even_alike s
       (shift_legs (points s.start) (points s.last) (points s.target) s.lift (even_progress elapsed s.period)))
 

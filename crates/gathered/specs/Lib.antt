@@ -2,6 +2,7 @@
 pub use Rattle.numbers.specs.Told as NumbersTold
 pub use Rattle.numbers.specs.Door as NumbersDoor
 pub use Rattle.numbers.specs.Limits as NumbersLimits
+pub use Rattle.numbers.specs.Refusals as NumbersRefusals
 pub use Rattle.numbers.specs.Answers as NumbersAnswers
 pub use Rattle.numbers.specs.Finite as NumbersFinite
 pub use Rattle.units.specs.Units as UnitsUnits
@@ -22,6 +23,7 @@ pub use Rattle.arcs.specs.Entries as ArcsEntries
 pub use Rattle.arcs.specs.How as ArcsHow
 pub use Rattle.legs.specs.Legs as LegsLegs
 pub use Rattle.legs.specs.Vectors as LegsVectors
+pub use Rattle.legs.specs.LegNumbers as LegsLegNumbers
 pub use Rattle.legs.specs.Masks as LegsMasks
 pub use Rattle.legs.specs.Flags as LegsFlags
 pub use Rattle.legs.specs.Answers as LegsAnswers

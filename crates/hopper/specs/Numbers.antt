@@ -2,6 +2,7 @@
 pub use Rattle.gathered.specs.NumbersTold
 pub use Rattle.gathered.specs.NumbersDoor
 pub use Rattle.gathered.specs.NumbersLimits
+pub use Rattle.gathered.specs.NumbersRefusals
 pub use Rattle.gathered.specs.NumbersAnswers
 pub use Rattle.gathered.specs.NumbersFinite
 pub use Rattle.gathered.specs.UnitsUnits

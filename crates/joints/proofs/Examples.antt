@@ -9,15 +9,16 @@ use Rattle.numbers.specs.Limits.{over, minus, foot_limit, leg_length, offset, co
 use Rattle.legs.specs.Legs.{marked, finite_point, permitted_point}
 use Rattle.legs.specs.Vectors as vectors
 use Rattle.legs.specs.declared.Point.{Point}
-use Rattle.legs.specs.declared.Feet.{Feet}
+use Rattle.legs.specs.Legs.{Feet}
 use Rattle.arcs.proofs.Examples as angles
 use Rattle.joints.specs.Configured.{finite_leg, permitted_leg, finite_body, permitted_body}
 use Rattle.joints.specs.Configured.{finite_configuration, permitted_configuration}
 use Rattle.joints.specs.Degrees.{ninety, minus_ninety}
 use Rattle.joints.specs.Answers.{given_joints, leg_refused}
-use Rattle.joints.specs.Inverse.{coxa_angle, all_angles, ik_refusal, past_refusal, legs_told, ik_told}
+use Rattle.joints.specs.Inverse.{coxa_angle, all_angles, ik_refusal, past_refusal, ik_told}
 use Rattle.joints.specs.declared.configuration.LegConfiguration.{LegConfiguration}
 use Rattle.joints.specs.declared.configuration.Configuration.{Configuration}
+use Rattle.joints.proofs.LegsTold.{told_in_order}
 
 abbrev pub bits : ℕ → Float
 bits = of_bits binary32
@@ -62,12 +63,15 @@ crawler_of femur tibia rm lr =
             femur_offset = bits 0;
             tibia_offset = bits 0;
           };
-      left_front = one_leg;
-      left_middle = one_leg;
-      left_rear = lr;
-      right_front = one_leg;
-      right_middle = rm;
-      right_rear = one_leg;
+      legs =
+          record {
+            left_front = one_leg;
+            left_middle = one_leg;
+            left_rear = lr;
+            right_front = one_leg;
+            right_middle = rm;
+            right_rear = one_leg;
+          };
     }
 
 abbrev left_rear_turned : Float → Configuration
@@ -127,15 +131,15 @@ pub table :
     × (ik_told (six ahead ahead right_and_back right_and_back right_and_back right_and_back) crawler ≡ leg_refused 8 2)
     × (ik_told (six right_and_back ahead ahead ahead ahead (at nan (bits 0) (bits 0))) crawler ≡ refused 1)
     × (ik_told (six right_and_back ahead ahead ahead ahead (at (bits 0x3e80_0000) (bits 0) (bits 0x4080_0001))) crawler ≡ refused 2)
-unfolding ik_told ik_refusal legs_told past_refusal finite_configuration permitted_configuration finite_leg permitted_leg finite_body
+unfolding ik_told ik_refusal past_refusal finite_configuration permitted_configuration finite_leg permitted_leg finite_body
     permitted_body
     finite_point permitted_point finite foot_limit leg_length offset correction rotation over minus round ninety minus_ninety of_bits lt le
     eq
 table = (
-  rw (angle_ahead) refl,
-  rw (angle_ahead) (rw (angle_left) refl),
-  rw (angle_ahead) (rw (angle_left) (rw (angle_right) refl)),
-  rw (angle_ahead) (rw (angle_right) refl),
+  rw (told_in_order, angle_ahead) refl,
+  rw (told_in_order, angle_ahead, angle_left) refl,
+  rw (told_in_order, angle_ahead, angle_left, angle_right) refl,
+  rw (told_in_order, angle_ahead, angle_right) refl,
   refl,
   refl,
 )
@@ -148,14 +152,14 @@ pub at_the_limit :
     × (ik_told all_ahead (left_rear_turned (bits 0x3fc9_0fda)) ≡ solved all_ahead (left_rear_turned (bits 0x3fc9_0fda)))
     × (ik_told all_ahead (left_rear_turned (bits 0xbfc9_0fda)) ≡ solved all_ahead (left_rear_turned (bits 0xbfc9_0fda)))
     × (ik_told (six to_the_side ahead ahead ahead ahead ahead) crawler ≡ solved (six to_the_side ahead ahead ahead ahead ahead) crawler)
-unfolding ik_told ik_refusal legs_told past_refusal finite_configuration permitted_configuration finite_leg permitted_leg finite_body
+unfolding ik_told ik_refusal past_refusal finite_configuration permitted_configuration finite_leg permitted_leg finite_body
     permitted_body
     finite_point permitted_point finite foot_limit leg_length offset correction rotation over minus round ninety minus_ninety of_bits lt le
     eq
 at_the_limit = (
-  rw (angle_ahead) (rw angle_turned.0 refl),
-  rw (angle_ahead) (rw angle_turned.1 refl),
-  rw (angle_ahead) (rw angle_turned.2 refl),
-  rw (angle_ahead) (rw angle_turned.3 refl),
-  rw (angle_ahead) (rw (angle_side) refl),
+  rw (told_in_order, angle_ahead, angle_turned.0) refl,
+  rw (told_in_order, angle_ahead, angle_turned.1) refl,
+  rw (told_in_order, angle_ahead, angle_turned.2) refl,
+  rw (told_in_order, angle_ahead, angle_turned.3) refl,
+  rw (told_in_order, angle_ahead, angle_side) refl,
 )

@@ -3,18 +3,18 @@
 use Rattle.std.specs.Prelude.{◌≡◌, true, ◌&&◌}
 use mathlib.Core.Path.{ap, ◌∙◌}
 use lib.Dec.{lit≤, lit<}
-use lib.Ieee.{Float, binary32, add}
+use lib.Ieee.{Float}
 use lib.Ieee.Bits.{is_true}
 use lib.Ieee.Fits.{and_i}
 use Rattle.numbers.specs.Door.{finite}
 use Rattle.units.proofs.Door.{holds}
 use Rattle.arcs.specs.How.{atan2, arc_cosine}
 use Rattle.arcs.proofs.Bounds.{AtMostP, pi_units, atan2_bounds, arc_cosine_bounds}
-use Rattle.legs.specs.Legs.{Leg, foot, angles}
+use Rattle.legs.specs.Legs.{foot, angles}
 use Rattle.legs.specs.declared.Point.{Point}
-use Rattle.legs.specs.declared.Feet.{Feet}
+use Rattle.legs.specs.Legs.{Feet}
 use Rattle.legs.specs.declared.LegAngles.{LegAngles}
-use Rattle.legs.specs.declared.Joints.{Joints}
+use Rattle.legs.specs.Legs.{Joints}
 use Rattle.legs.proofs.OnePass.{every_true}
 use Rattle.bounds.specs.Between.{Between}
 use Rattle.bounds.proofs.Between.{between_finite, sum_between, magnitude_between, result_between}

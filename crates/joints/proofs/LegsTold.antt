@@ -1,58 +1,72 @@
 -- What the two cores tell of six legs: the refusal of the first leg in row order that is refused, else their angles.
-use Rattle.std.specs.Prelude.{◌≡◌, ℕ, suc, Bool, true, false, ◌||◌, eqb, List, [], ◌∷◌}
-use mathlib.Core.Path.{refl, sym, ap, ap₂, ◌∙◌}
-use mathlib.Core.Bool.{true≢false}
-use lib.Ieee.{Float}
+use Rattle.std.specs.Prelude.{◌≡◌, ℕ, suc, Bool, true, false, eqb, List, [], ◌∷◌}
+use mathlib.Core.Path.{refl, sym, ap, ◌∙◌}
+use borrow.Author.Tests.{eqb-true}
 use Rattle.numbers.specs.Told.{Told, choose}
-use Rattle.legs.specs.Legs.{row}
-use Rattle.legs.specs.declared.Feet.{Feet}
-use Rattle.legs.specs.declared.Joints.{Joints}
-use Rattle.joints.specs.Answers.{told, told_legs, given_joints, leg_refused, first_leg}
-use Rattle.joints.specs.Inverse.{past_positive, past_negative, past_refusal, side_refusal, leg_angles, all_angles, legs_told}
+use Rattle.numbers.specs.Refusals.{number_of}
+use Rattle.numbers.proofs.Numbers.{a_refusal_has_a_number}
+use Rattle.legs.specs.Legs.{Feet, Joints, row}
+use Rattle.joints.specs.Answers.{nothing, given_joints, leg_refused, first_leg, refused_at}
+use Rattle.joints.specs.Inverse.{side_refusal, leg_angles, all_angles, legs_told}
 use Rattle.joints.specs.Strict.{reach_refusal, strict_legs_told}
-use Rattle.joints.specs.How.{heading, headings, solved_angles, all_solved, past_at, earlier, first_refused, first_past, first_out_of_reach}
-use Rattle.joints.specs.How.{unless_refused, answered}
+use Rattle.joints.specs.How.{heading, headings, solved_angles, all_solved, past_refusals, reach_refusals}
 use Rattle.joints.specs.declared.configuration.Configuration.{Configuration}
-use Rattle.joints.specs.declared.unchecked.RefusedLeg.{RefusedLeg}
-use Rattle.joints.specs.declared.unchecked.LegsSolved.{LegsSolved}
-use Rattle.joints.specs.declared.unchecked.LegsSolved.TheVariants.{Joints as AllAngles, Refused as OneRefused}
-use Rattle.joints.proofs.TwoTests.{refusal}
+use Rattle.joints.specs.declared.refusal.SolverRefusal.{SolverRefusal}
+use Rattle.joints.proofs.OneAnswer.{refused_number}
 
--- ---- one leg: where it is past its limit it is the first, with its refusal; else later legs say
-module _ (k : ℕ) (later : RefusedLeg) where
-  past_by : (u w : Bool) → (u || w) ≡ true → record { leg = k; refusal = choose u 6 8 } ≡ earlier (refusal 6 8 u w) k later
-  unfolding earlier
-  past_by true w h = refl
-  past_by false true h = refl
-  past_by false false h = absurd (true≢false (sym h))
+-- ---- legs one after another: a test that gives nothing passes a leg, and what it names otherwise is what all of them name
+-- a refusal is not nothing
+names_one : (r : SolverRefusal) → refused_at (number_of r.refusal) r.leg ≡ nothing → ⊥
+names_one r e = a_refusal_has_a_number r.refusal (sym (refused_number (number_of r.refusal) r.leg) ∙ ap (λ (t : Told). t.number) e)
 
-  short_by : (u w : Bool) → (u || w) ≡ false → later ≡ earlier (refusal 6 8 u w) k later
-  unfolding earlier
-  short_by true w h = absurd (true≢false h)
-  short_by false true h = absurd (true≢false h)
-  short_by false false h = refl
+pub passed : (m n k : ℕ) → m ≡ n → nothing ≡ first_leg (m ∷ []) k nothing → n ≡ 0
+passed m n k same e = sym same ∙ by_test (eqb m 0) refl e
+  where
+    by_test : (b : Bool) → eqb m 0 ≡ b → nothing ≡ choose b nothing (leg_refused m k) → m ≡ 0
+    by_test true d e = eqb-true m 0 d
+    by_test false d e = let marks : [] ≡ k ∷ [] = ap (λ (t : Told). t.marks) e in cc
 
-  pub past_leg : (a : Float) → (past_positive a || past_negative a) ≡ true → past_at k a ≡ earlier (past_refusal a) k later
-  unfolding past_refusal
-  past_leg a = past_by (past_positive a) (past_negative a)
+pub stopped : (r : SolverRefusal) (m n k : ℕ) (t : Told) → m ≡ n
+    → refused_at (number_of r.refusal) r.leg ≡ first_leg (m ∷ []) k nothing
+    → refused_at (number_of r.refusal) r.leg ≡ choose (eqb n 0) t (leg_refused n k)
+stopped r m n k t same e = by_test (eqb n 0) (rw same at e)
+  where
+    by_test : (b : Bool) → refused_at (number_of r.refusal) r.leg ≡ choose b nothing (leg_refused n k)
+        → refused_at (number_of r.refusal) r.leg ≡ choose b t (leg_refused n k)
+    by_test true e = absurd (names_one r e)
+    by_test false e = e
 
-  pub short_leg : (a : Float) → (past_positive a || past_negative a) ≡ false → later ≡ earlier (past_refusal a) k later
-  unfolding past_refusal
-  short_leg a = short_by (past_positive a) (past_negative a)
+-- over any legs: what a test names is what is told, whatever is given where all pass
+pub named_first : (r : SolverRefusal) (t : Told) (ns : List ℕ) (k : ℕ) → refused_at (number_of r.refusal) r.leg ≡ first_leg ns k nothing
+    → refused_at (number_of r.refusal) r.leg ≡ first_leg ns k t
+named_first r t [] k e = absurd (names_one r e)
+named_first r t (n ∷ ns) k e = later_first (refused_at (number_of r.refusal) r.leg) (eqb n 0) (named_first r t ns (suc k)) e
+  where
+    later_first : (s : Told) (b : Bool) → (s ≡ first_leg ns (suc k) nothing → s ≡ first_leg ns (suc k) t)
+        → s ≡ choose b (first_leg ns (suc k) nothing) (leg_refused n k)
+        → s ≡ choose b (first_leg ns (suc k) t) (leg_refused n k)
+    later_first s true later e = later e
+    later_first s false later e = e
 
--- ---- what is told of the first leg, is told by `first_leg`
-module _ (t : Told) where
-  one_leg : (n k : ℕ) (later : RefusedLeg) (rest : Told) (b : Bool) → eqb n 0 ≡ b
-      → unless_refused later t ≡ rest
-      → unless_refused (earlier n k later) t ≡ choose (eqb n 0) rest (leg_refused n k)
-  unfolding earlier
-  one_leg n k later rest true e h = simp (e, h)
-  one_leg n k later rest false e h = simp e
+pub none_named : (t : Told) (ns : List ℕ) (k : ℕ) → nothing ≡ first_leg ns k nothing → t ≡ first_leg ns k t
+none_named t [] k e = refl
+none_named t (n ∷ ns) k e = by_test (eqb n 0) (none_named t ns (suc k)) e
+  where
+    by_test : (b : Bool) → (nothing ≡ first_leg ns (suc k) nothing → t ≡ first_leg ns (suc k) t)
+        → nothing ≡ choose b (first_leg ns (suc k) nothing) (leg_refused n k)
+        → t ≡ choose b (first_leg ns (suc k) t) (leg_refused n k)
+    by_test true later e = later e
+    by_test false later e = let marks : [] ≡ k ∷ [] = ap (λ (u : Told). u.marks) e in cc
 
-  in_order : (ns : List ℕ) (k : ℕ) → unless_refused (first_refused ns k) t ≡ first_leg ns k t
-  unfolding first_refused
-  in_order [] k = refl
-  in_order (n ∷ ns) k = one_leg n k (first_refused ns (suc k)) _ (eqb n 0) refl (in_order ns (suc k))
+-- ---- the order of the legs: what is told is told by the first of them. Every law of the two solvers has it from here
+pub told_in_order : (f : Feet) (c : Configuration) → legs_told f c ≡ first_leg (row (side_refusal f c)) 0 (given_joints (all_angles f c))
+unfolding legs_told
+told_in_order f c = refl
+
+pub strict_in_order : (f : Feet) (c : Configuration) → strict_legs_told f c
+    ≡ first_leg (row (side_refusal f c)) 0 (first_leg (row (reach_refusal f c)) 0 (given_joints (all_angles f c)))
+unfolding strict_legs_told
+strict_in_order f c = refl
 
 -- ---- the legs as they set out
 module _ (f : Feet) (c : Configuration) where
@@ -60,69 +74,56 @@ module _ (f : Feet) (c : Configuration) where
   unfolding headings heading all_solved solved_angles leg_angles
   solved_so = refl
 
-  past_so : (t : Told) → unless_refused (first_past (headings f c)) t ≡ first_leg (row (side_refusal f c)) 0 t
-  unfolding first_past headings heading
-  past_so t = in_order t (row (side_refusal f c)) 0
+  past_so : past_refusals (headings f c) ≡ row (side_refusal f c)
+  unfolding past_refusals headings heading
+  past_so = refl
 
-  reach_so : (t : Told) → unless_refused (first_out_of_reach (headings f c) c.body) t ≡ first_leg (row (reach_refusal f c)) 0 t
-  unfolding first_out_of_reach headings heading
-  reach_so t = in_order t (row (reach_refusal f c)) 0
+  reach_so : reach_refusals (headings f c) c.body ≡ row (reach_refusal f c)
+  unfolding reach_refusals headings heading
+  reach_so = refl
 
-  abbrev solved : Told
-  solved = given_joints (all_solved (headings f c) c)
-
-  abbrev reached : Told
-  reached = unless_refused (first_out_of_reach (headings f c) c.body) solved
-
-  -- what the old core tells of its first leg past its limit, p, and the strict one of it and of its first leg out of reach, q
-  old_told : (p : RefusedLeg) → p ≡ first_past (headings f c) → unless_refused p solved ≡ legs_told f c
-  unfolding legs_told
-  old_told p e =
-      ap (λ r. unless_refused r solved) e
-      ∙ past_so solved
-      ∙ ap (λ j. first_leg (row (side_refusal f c)) 0 (given_joints j)) solved_so
-
-  strict_told :
-      (p q : RefusedLeg)
-      → p ≡ first_past (headings f c)
-      → q ≡ first_out_of_reach (headings f c) c.body
-      → unless_refused p (unless_refused q solved) ≡ strict_legs_told f c
-  unfolding strict_legs_told
-  strict_told p q e d =
-      ap₂ (λ r s. unless_refused r (unless_refused s solved)) e d
-      ∙ past_so reached
-      ∙ ap (first_leg (row (side_refusal f c)) 0) (reach_so solved
-      ∙ ap (λ j. first_leg (row (reach_refusal f c)) 0 (given_joints j)) solved_so)
+  solution : (j : Joints) → j ≡ all_solved (headings f c) c → given_joints j ≡ given_joints (all_angles f c)
+  solution j e = ap given_joints (e ∙ solved_so)
 
   -- by the cases of the code
-  pub old_past : (p : RefusedLeg) → p ≡ first_past (headings f c) → eqb p.refusal 0 ≡ false
-      → told_legs (OneRefused p.refusal p.leg) ≡ legs_told f c
-  unfolding told_legs
-  old_past p e one = rw (sym (old_told p e)) (rw (one) refl)
+  pub legs_refused : (r : SolverRefusal) → refused_at (number_of r.refusal) r.leg ≡ first_leg (past_refusals (headings f c)) 0 nothing
+      → refused_at (number_of r.refusal) r.leg ≡ legs_told f c
+  legs_refused r e = named_first r (given_joints (all_angles f c)) (row (side_refusal f c)) 0 (rw (past_so) at e) ∙ sym (told_in_order f c)
 
-  pub old_solved : (p : RefusedLeg) (j : Joints) → p ≡ first_past (headings f c) → eqb p.refusal 0 ≡ true
+  pub legs_solved : (j : Joints) → nothing ≡ first_leg (past_refusals (headings f c)) 0 nothing → j ≡ all_solved (headings f c) c
+      → given_joints j ≡ legs_told f c
+  legs_solved j e s =
+      solution j s
+      ∙ none_named (given_joints (all_angles f c)) (row (side_refusal f c)) 0 (rw (past_so) at e)
+      ∙ sym (told_in_order f c)
+
+  pub strict_refused : (r : SolverRefusal) → refused_at (number_of r.refusal) r.leg ≡ first_leg (past_refusals (headings f c)) 0 nothing
+      → refused_at (number_of r.refusal) r.leg ≡ strict_legs_told f c
+  strict_refused r e =
+      named_first r (first_leg (row (reach_refusal f c)) 0 (given_joints (all_angles f c))) (row (side_refusal f c)) 0 (rw (past_so) at e)
+      ∙ sym (strict_in_order f c)
+
+  pub strict_out : (r : SolverRefusal) → nothing ≡ first_leg (past_refusals (headings f c)) 0 nothing
+      → refused_at (number_of r.refusal) r.leg ≡ first_leg (reach_refusals (headings f c) c.body) 0 nothing
+      → refused_at (number_of r.refusal) r.leg ≡ strict_legs_told f c
+  strict_out r e d =
+      let given = given_joints (all_angles f c) in
+      named_first r given (row (reach_refusal f c)) 0 (rw (reach_so) at d)
+      ∙ none_named (first_leg (row (reach_refusal f c)) 0 given) (row (side_refusal f c)) 0 (rw (past_so) at e)
+      ∙ sym (strict_in_order f c)
+
+  pub strict_solved : (j : Joints) → nothing ≡ first_leg (past_refusals (headings f c)) 0 nothing
+      → nothing ≡ first_leg (reach_refusals (headings f c) c.body) 0 nothing
       → j ≡ all_solved (headings f c) c
-      → told_legs (AllAngles j) ≡ legs_told f c
-  unfolding told_legs
-  old_solved p j e none s = ap given_joints s ∙ rw (sym (old_told p e)) (rw (none) refl)
+      → given_joints j ≡ strict_legs_told f c
+  strict_solved j e d s =
+      let given = given_joints (all_angles f c) in
+      solution j s
+      ∙ none_named given (row (reach_refusal f c)) 0 (rw (reach_so) at d)
+      ∙ none_named (first_leg (row (reach_refusal f c)) 0 given) (row (side_refusal f c)) 0 (rw (past_so) at e)
+      ∙ sym (strict_in_order f c)
 
-  module _ (p q : RefusedLeg) (e : p ≡ first_past (headings f c)) (d : q ≡ first_out_of_reach (headings f c) c.body) where
-    pub strict_past : eqb p.refusal 0 ≡ false → told_legs (OneRefused p.refusal p.leg) ≡ strict_legs_told f c
-    unfolding told_legs
-    strict_past one = rw (sym (strict_told p q e d)) (rw (one) refl)
+-- the cases of a solver, for its attribute
+pub ruleset old = (legs_refused, legs_solved)
 
-    pub strict_out : eqb p.refusal 0 ≡ true → eqb q.refusal 0 ≡ false
-        → told_legs (OneRefused q.refusal q.leg) ≡ strict_legs_told f c
-    unfolding told_legs
-    strict_out none one = rw (sym (strict_told p q e d)) (rw (none) (rw (one) refl))
-
-    pub strict_solved : (j : Joints) → eqb p.refusal 0 ≡ true → eqb q.refusal 0 ≡ true → j ≡ all_solved (headings f c) c
-        → told_legs (AllAngles j) ≡ strict_legs_told f c
-    unfolding told_legs
-    strict_solved j none no_more s = ap given_joints s ∙ rw (sym (strict_told p q e d)) (rw (none) (rw (no_more) refl))
-
--- ---- the entries say what the cores say
-pub told_answered : (s : LegsSolved) → told (answered s) ≡ told_legs s
-unfolding told_legs
-told_answered (AllAngles j) = refl
-told_answered (OneRefused n k) = refl
+pub ruleset strict = (strict_refused, strict_out, strict_solved)

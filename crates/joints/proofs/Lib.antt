@@ -6,6 +6,7 @@ pub mod Sides
 pub mod Reach
 pub mod Within
 pub mod OneAnswer
+pub mod OneLeg
 pub mod Laws
 pub mod Told
 pub mod Finite

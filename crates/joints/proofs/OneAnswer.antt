@@ -1,17 +1,20 @@
 -- `told` loses nothing of an answer on joints, so no second answer fits a contract stated by it, and no case is told like another.
-use Rattle.std.specs.Prelude.{◌≡◌, ℕ, suc, Bool, true, false, eqb, List, [], ◌∷◌, length, get_or}
+use Rattle.std.specs.Prelude.{◌≡◌, ℕ, suc, Bool, true, false, eqb, List, [], ◌∷◌, length, get_or, Result, Ok, Err, Option, Some, None}
 use mathlib.Core.Path.{refl, sym, ap, ap₂, ◌∙◌}
 use native.Mathlib.Omega.{arith}
 use lib.Ieee.{Float, nan}
 use borrow.Author.Tests.{eqb-true}
 use Rattle.numbers.specs.Told.{Told, refused, choose}
-use Rattle.legs.specs.Legs.{row, angles, joints_of, values}
-use Rattle.legs.specs.declared.Joints.{Joints}
-use Rattle.joints.specs.Answers.{given_joints, leg_refused, told, told_legs}
-use Rattle.joints.specs.declared.Solution.{Solution}
-use Rattle.joints.specs.declared.Solution.TheVariants.{Solved, Refused, LegRefused}
-use Rattle.joints.specs.declared.unchecked.LegsSolved.{LegsSolved}
-use Rattle.joints.specs.declared.unchecked.LegsSolved.TheVariants.{Joints as AllAngles, Refused as OneRefused}
+use Rattle.numbers.specs.Refusals.{number_of}
+use Rattle.numbers.specs.declared.refusal.Refusal.{Refusal}
+use Rattle.numbers.proofs.Numbers.{a_refusal_has_a_number}
+use Rattle.numbers.proofs.OneAnswer.{number_of_loses_nothing}
+use Rattle.legs.specs.Legs.{Joints, row, angles, joints_of, values}
+use Rattle.legs.specs.LegNumbers.{leg_number}
+use Rattle.legs.specs.declared.leg.Leg.{Leg}
+use Rattle.legs.specs.declared.leg.Leg.TheVariants.{LeftFront, RightFront, LeftMiddle, RightMiddle, LeftRear, RightRear}
+use Rattle.joints.specs.Answers.{given_joints, leg_refused, refused_at, told_by, told}
+use Rattle.joints.specs.declared.refusal.SolverRefusal.{SolverRefusal}
 
 -- eighteen angles are settled by their floats
 pub joints_from : List Float → Joints
@@ -43,24 +46,55 @@ one_refusal n k m l e =
     let v : k ∷ [] ≡ l ∷ [] = marked e in
     (ap (λ (t : Told). t.number) e, cc)
 
--- a leg's mark tells the refusals that name one from those that name none
-pub told_loses_nothing : (a b : Solution) → told a ≡ told b → a ≡ b
-told_loses_nothing (Solved i) (Solved j) e = ap Solved (joints_from_values i j (floats e))
-told_loses_nothing (Solved i) (Refused n) e = let v : values joints_of (row (angles i)) ≡ [] = floats e in cc
-told_loses_nothing (Solved i) (LegRefused n k) e = let v : values joints_of (row (angles i)) ≡ [] = floats e in cc
-told_loses_nothing (Refused n) (Solved j) e = let v : [] ≡ values joints_of (row (angles j)) = floats e in cc
-told_loses_nothing (Refused n) (Refused m) e = ap Refused (ap (λ (t : Told). t.number) e)
-told_loses_nothing (Refused n) (LegRefused m k) e = let v : [] ≡ k ∷ [] = marked e in cc
-told_loses_nothing (LegRefused n k) (Solved j) e = let v : [] ≡ values joints_of (row (angles j)) = floats e in cc
-told_loses_nothing (LegRefused n k) (Refused m) e = let v : k ∷ [] ≡ [] = marked e in cc
-told_loses_nothing (LegRefused n k) (LegRefused m l) e = let (p, q) = one_refusal n k m l e in ap₂ LegRefused p q
+-- a leg is settled by its number
+leg_at : ℕ → Leg
+leg_at k = get_or (LeftFront ∷ RightFront ∷ LeftMiddle ∷ RightMiddle ∷ LeftRear ∷ RightRear ∷ []) k LeftFront
 
-pub told_legs_loses_nothing : (a b : LegsSolved) → told_legs a ≡ told_legs b → a ≡ b
-unfolding told_legs
-told_legs_loses_nothing (AllAngles i) (AllAngles j) e = ap AllAngles (joints_from_values i j (floats e))
-told_legs_loses_nothing (AllAngles i) (OneRefused n k) e = let v : values joints_of (row (angles i)) ≡ [] = floats e in cc
-told_legs_loses_nothing (OneRefused n k) (AllAngles j) e = let v : [] ≡ values joints_of (row (angles j)) = floats e in cc
-told_legs_loses_nothing (OneRefused n k) (OneRefused m l) e = let (p, q) = one_refusal n k m l e in ap₂ OneRefused p q
+at_its_number : (l : Leg) → leg_at (leg_number l) ≡ l
+unfolding leg_at
+at_its_number LeftFront = refl
+at_its_number RightFront = refl
+at_its_number LeftMiddle = refl
+at_its_number RightMiddle = refl
+at_its_number LeftRear = refl
+at_its_number RightRear = refl
+
+pub leg_number_loses_nothing : (l m : Leg) → leg_number l ≡ leg_number m → l ≡ m
+leg_number_loses_nothing l m e = sym (at_its_number l) ∙ ap leg_at e ∙ at_its_number m
+
+-- a leg's mark tells the refusals that name one from those that name none
+refusal_from_told : (r q : Refusal) (l m : Option Leg) → refused_at (number_of r) l ≡ refused_at (number_of q) m
+    → ◌≡◌ {A = SolverRefusal} (record { refusal = r; leg = l }) (record { refusal = q; leg = m })
+refusal_from_told r q None None e =
+    ap (λ (p : Refusal). record { refusal = p; leg = None }) (number_of_loses_nothing r q (ap (λ (t : Told). t.number) e))
+refusal_from_told r q None (Some m) e = let v : [] ≡ leg_number m ∷ [] = marked e in cc
+refusal_from_told r q (Some l) None e = let v : leg_number l ∷ [] ≡ [] = marked e in cc
+refusal_from_told r q (Some l) (Some m) e =
+    let (n, k) = one_refusal (number_of r) (leg_number l) (number_of q) (leg_number m) e in
+    ap₂ (λ (p : Refusal) (i : Leg). record { refusal = p; leg = Some i }) (number_of_loses_nothing r q n) (leg_number_loses_nothing l m k)
+
+-- a refusal's number is not 0, whether it names a leg or not
+pub refused_number : (n : ℕ) (l : Option Leg) → (refused_at n l).number ≡ n
+refused_number n None = refl
+refused_number n (Some l) = refl
+
+-- what an answer tells settles it, where what its value says settles the value and is no refusal
+pub told_by_loses_nothing :
+    {A : Type 0} (say : A → Told) → ((a b : A) → say a ≡ say b → a ≡ b) → ((a : A) → (say a).number ≡ 0) →
+    (a b : Result A SolverRefusal) → told_by say a ≡ told_by say b → a ≡ b
+told_by_loses_nothing say settles taken (Ok a) (Ok b) e = ap Ok (settles a b e)
+told_by_loses_nothing say settles taken (Ok a) (Err q) e =
+    absurd
+    (a_refusal_has_a_number q.refusal
+    (sym (refused_number (number_of q.refusal) q.leg) ∙ sym (ap (λ (t : Told). t.number) e) ∙ taken a))
+told_by_loses_nothing say settles taken (Err r) (Ok b) e =
+    absurd
+    (a_refusal_has_a_number r.refusal
+    (sym (refused_number (number_of r.refusal) r.leg) ∙ ap (λ (t : Told). t.number) e ∙ taken b))
+told_by_loses_nothing say settles taken (Err r) (Err q) e = ap Err (refusal_from_told r.refusal q.refusal r.leg q.leg e)
+
+pub told_loses_nothing : (a b : Result Joints SolverRefusal) → told a ≡ told b → a ≡ b
+told_loses_nothing = told_by_loses_nothing given_joints (λ i j e. joints_from_values i j (floats e)) (λ j. refl)
 
 -- ---- no case is told like another
 not_none : (n : ℕ) → suc n ≡ 0 → ⊥

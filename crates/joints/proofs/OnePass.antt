@@ -6,9 +6,9 @@ use Rattle.numbers.specs.Limits as rows
 use Rattle.numbers.proofs.OnePass.{in_row, both}
 use Rattle.legs.specs.Legs.{angles, finite_feet, permitted_feet}
 use Rattle.legs.proofs.OnePass.{all_six, in_foot_row, in_feet_row}
-use Rattle.legs.specs.declared.Feet.{Feet}
+use Rattle.legs.specs.Legs.{Feet}
 use Rattle.legs.specs.declared.LegAngles.{LegAngles}
-use Rattle.legs.specs.declared.Joints.{Joints}
+use Rattle.legs.specs.Legs.{Joints}
 use Rattle.joints.specs.Configured.{leg, finite_leg, permitted_leg, finite_body, permitted_body, finite_angles, permitted_angles}
 use Rattle.joints.specs.Configured.{finite_configuration, permitted_configuration, finite_joints, permitted_joints}
 use Rattle.joints.specs.declared.configuration.Body.{Body}

@@ -11,7 +11,7 @@ use Rattle.roots.specs.Root.{square_root}
 use Rattle.legs.specs.Legs.{finite_point, permitted_point}
 use Rattle.legs.specs.Vectors as vectors
 use Rattle.legs.specs.declared.Point.{Point}
-use Rattle.legs.specs.declared.Feet.{Feet}
+use Rattle.legs.specs.Legs.{Feet}
 use Rattle.arcs.proofs.Examples as angles
 use Rattle.joints.specs.Configured.{finite_leg, permitted_leg, finite_body, permitted_body}
 use Rattle.joints.specs.Configured.{finite_configuration, permitted_configuration}

@@ -1,7 +1,7 @@
 -- What upper rooms may cite of the strict solver. Where it tells joints, the old solver tells the same, and every leg is within reach; what
 -- the old one refuses, it refuses alike; it names a leg with 9 or 10 exactly where no leg is past its limit and that leg is the first out
 -- of reach.
-use Rattle.std.specs.Prelude.{◌≡◌, ℕ, ◌<◌, Bool, true, false, eqb, ◌⊎◌, ◌↔◌, []}
+use Rattle.std.specs.Prelude.{◌≡◌, ℕ, ◌<◌, Bool, true, false, eqb, ◌⊎◌, ◌↔◌, [], Ok}
 use mathlib.Core.Path.{refl, sym, ap₂, ◌∙◌, subst}
 use mathlib.Core.Logic.{inl, inr}
 use native.Mathlib.Omega.{arith}
@@ -10,14 +10,14 @@ use borrow.Author.Tests.{eq-eqb}
 use Rattle.numbers.specs.Told.{Told, refused, choose}
 use Rattle.bounds.specs.Between.{HeldFeet}
 use Rattle.legs.specs.Legs.{Leg, row}
-use Rattle.legs.specs.declared.Feet.{Feet}
-use Rattle.legs.specs.declared.Joints.{Joints}
+use Rattle.legs.specs.Legs.{Feet}
+use Rattle.legs.specs.Legs.{Joints}
 use Rattle.joints.specs.Answers.{given_joints, leg_refused, first_leg, told}
 use Rattle.joints.specs.Inverse.{coxa_of, all_angles, ik_refusal, side_refusal, legs_told, ik_told}
 use Rattle.joints.specs.Strict.{farthest, nearest, distance_of, reach_refusal, strict_legs_told, strict_told}
-use Rattle.joints.specs.declared.Solution.TheVariants.{Solved, LegRefused}
 use Rattle.joints.specs.declared.configuration.Configuration.{Configuration}
 use Rattle.joints.proofs.OneAnswer.{one_refusal, with_floats, with_a_mark, past_the_door}
+use Rattle.joints.proofs.LegsTold.{told_in_order, strict_in_order}
 use Rattle.joints.proofs.FirstLeg.{leg_number, First, AllPass, OneNamed, first_leg_lem, all_pass, the_first}
 use Rattle.joints.proofs.TwoTests.{a_number}
 use Rattle.joints.proofs.Sides.{PastSide, Short, past_side, short, passed_at}
@@ -79,28 +79,34 @@ module _ (f : Feet) (c : Configuration) where
           inl (record { which = l; first = F; strict = q; old = the_first (side_refusal f c) solution l F })
 
   -- ---- what is told behind the door, and back
-  joints_behind : (j : Joints) → told (Solved j) ≡ strict_told f c → (ik_refusal f c ≡ 0) × (given_joints j ≡ strict_legs)
-  unfolding strict_told strict_legs_told
-  joints_behind j =
-      let n = ik_refusal f c in past_the_door (given_joints j) strict_legs n (eqb n 0) refl (with_floats j (refused n) refl)
+  joints_behind : (j : Joints) → told (Ok j) ≡ strict_told f c → (ik_refusal f c ≡ 0) × (given_joints j ≡ strict_legs)
+  unfolding strict_told
+  joints_behind j e =
+      let n = ik_refusal f c in
+      let (d, h) = past_the_door (given_joints j) (strict_legs_told f c) n (eqb n 0) refl (with_floats j (refused n) refl) e in
+      (d, h ∙ strict_in_order f c)
 
-  old_joints_behind : (j : Joints) → told (Solved j) ≡ ik_told f c → (ik_refusal f c ≡ 0) × (given_joints j ≡ old_legs)
-  unfolding ik_told legs_told
-  old_joints_behind j =
-      let n = ik_refusal f c in past_the_door (given_joints j) old_legs n (eqb n 0) refl (with_floats j (refused n) refl)
+  old_joints_behind : (j : Joints) → told (Ok j) ≡ ik_told f c → (ik_refusal f c ≡ 0) × (given_joints j ≡ old_legs)
+  unfolding ik_told
+  old_joints_behind j e =
+      let n = ik_refusal f c in
+      let (d, h) = past_the_door (given_joints j) (legs_told f c) n (eqb n 0) refl (with_floats j (refused n) refl) e in
+      (d, h ∙ told_in_order f c)
 
-  leg_behind : (n k : ℕ) → told (LegRefused n k) ≡ strict_told f c → (ik_refusal f c ≡ 0) × (leg_refused n k ≡ strict_legs)
-  unfolding strict_told strict_legs_told
-  leg_behind n k =
-      let r = ik_refusal f c in past_the_door (leg_refused n k) strict_legs r (eqb r 0) refl (with_a_mark n k (refused r) refl)
+  leg_behind : (n k : ℕ) → leg_refused n k ≡ strict_told f c → (ik_refusal f c ≡ 0) × (leg_refused n k ≡ strict_legs)
+  unfolding strict_told
+  leg_behind n k e =
+      let r = ik_refusal f c in
+      let (d, h) = past_the_door (leg_refused n k) (strict_legs_told f c) r (eqb r 0) refl (with_a_mark n k (refused r) refl) e in
+      (d, h ∙ strict_in_order f c)
 
   strict_so : (t : Told) → ik_refusal f c ≡ 0 → t ≡ strict_legs → t ≡ strict_told f c
-  unfolding strict_told strict_legs_told
-  strict_so t e h = rw (eq-eqb (ik_refusal f c) 0 e) h
+  unfolding strict_told
+  strict_so t e h = rw (eq-eqb (ik_refusal f c) 0 e) (h ∙ sym (strict_in_order f c))
 
   old_so : (t : Told) → ik_refusal f c ≡ 0 → t ≡ old_legs → t ≡ ik_told f c
-  unfolding ik_told legs_told
-  old_so t e h = rw (eq-eqb (ik_refusal f c) 0 e) h
+  unfolding ik_told
+  old_so t e h = rw (eq-eqb (ik_refusal f c) 0 e) (h ∙ sym (told_in_order f c))
 
   -- ---- where joints are told
   all_solved : (j : Joints) → given_joints j ≡ strict_legs → Case → AllSolved
@@ -109,17 +115,17 @@ module _ (f : Feet) (c : Configuration) where
   all_solved j h (inr (inr A)) = A
 
   -- "On anything it accepts it gives the old solver's joints to the bit"
-  pub strict_same_joints : (j : Joints) → told (Solved j) ≡ strict_told f c → told (Solved j) ≡ ik_told f c
+  pub strict_same_joints : (j : Joints) → told (Ok j) ≡ strict_told f c → told (Ok j) ≡ ik_told f c
   strict_same_joints j e =
       let (open_door, h) = joints_behind j e in
       let A = all_solved j h the_case in
       old_so (given_joints j) open_door (h ∙ A.strict ∙ sym A.old)
 
-  strict_reached : (j : Joints) → told (Solved j) ≡ strict_told f c → (l : Leg) → Reached c.body (distance_of f c l)
+  strict_reached : (j : Joints) → told (Ok j) ≡ strict_told f c → (l : Leg) → Reached c.body (distance_of f c l)
   strict_reached j e l = reached c.body (distance_of f c l) ((all_solved j (joints_behind j e).1 the_case).reached l)
 
-  back_to_joints : (j : Joints) → told (Solved j) ≡ ik_told f c → ((l : Leg) → Reached c.body (distance_of f c l))
-      → told (Solved j) ≡ strict_told f c
+  back_to_joints : (j : Joints) → told (Ok j) ≡ ik_told f c → ((l : Leg) → Reached c.body (distance_of f c l))
+      → told (Ok j) ≡ strict_told f c
   back_to_joints j e r =
       let (open_door, h) = old_joints_behind j e in
       strict_so (given_joints j) open_door (by_case h the_case)
@@ -131,8 +137,9 @@ module _ (f : Feet) (c : Configuration) where
 
   -- ---- "whatever the old one refuses it refuses alike": what the old solver tells without floats
   pub strict_refuses_alike : (t : Told) → t.values ≡ [] → ik_told f c ≡ t → strict_told f c ≡ t
-  unfolding ik_told legs_told strict_told strict_legs_told
-  strict_refuses_alike t none = by_door (eqb (ik_refusal f c) 0)
+  unfolding ik_told strict_told
+  strict_refuses_alike t none h =
+      rw (strict_in_order f c) (by_door (eqb (ik_refusal f c) 0) (rw (told_in_order f c) at h))
     where
       by_case : old_legs ≡ t → Case → strict_legs ≡ t
       by_case h (inl P) = P.strict ∙ sym P.old ∙ h
@@ -153,7 +160,7 @@ module _ (f : Feet) (c : Configuration) where
     pub out : OutOfReach n c.body (distance_of f c which)
     pub before : (m : Leg) → leg_number m < k → Reached c.body (distance_of f c m)
 
-  pub first_out_of_reach : (n k : ℕ) → (n ≡ 9) ⊎ (n ≡ 10) → told (LegRefused n k) ≡ strict_told f c → FirstOut n k
+  pub first_out_of_reach : (n k : ℕ) → (n ≡ 9) ⊎ (n ≡ 10) → leg_refused n k ≡ strict_told f c → FirstOut n k
   first_out_of_reach n k nine_or_ten e = let (open_door, h) = leg_behind n k e in by_case open_door h the_case
     where
       no_side : (a : ℕ) → (n ≡ 9) ⊎ (n ≡ 10) → n ≡ a → (a ≡ 6) ⊎ (a ≡ 8) → ⊥
@@ -191,11 +198,11 @@ module _ (f : Feet) (c : Configuration) where
   module _ (F : HeldFeet f) (C : HeldConfiguration c) where
     pub strict_within_reach :
         (j : Joints)
-        → (told (Solved j) ≡ strict_told f c)
-        ↔ ((told (Solved j) ≡ ik_told f c) × ((l : Leg) → WithinReach c.body (distance_of f c l)))
+        → (told (Ok j) ≡ strict_told f c)
+        ↔ ((told (Ok j) ≡ ik_told f c) × ((l : Leg) → WithinReach c.body (distance_of f c l)))
     strict_within_reach j = (there, back)
       where
-        there : told (Solved j) ≡ strict_told f c → (told (Solved j) ≡ ik_told f c) × ((l : Leg) → WithinReach c.body (distance_of f c l))
+        there : told (Ok j) ≡ strict_told f c → (told (Ok j) ≡ ik_told f c) × ((l : Leg) → WithinReach c.body (distance_of f c l))
         there e = (
           strict_same_joints j e,
           λ l.
@@ -203,7 +210,7 @@ module _ (f : Feet) (c : Configuration) where
               between_the_ends c.body (distance_of f c l) R.straight.ok R.sum.ok R.least.ok (strict_reached j e l),
         )
 
-        back : (told (Solved j) ≡ ik_told f c) × ((l : Leg) → WithinReach c.body (distance_of f c l)) → told (Solved j) ≡ strict_told f c
+        back : (told (Ok j) ≡ ik_told f c) × ((l : Leg) → WithinReach c.body (distance_of f c l)) → told (Ok j) ≡ strict_told f c
         back (e, w) =
             back_to_joints j e
             (λ l.
@@ -218,7 +225,7 @@ module _ (f : Feet) (c : Configuration) where
         never_both_ends c.body (distance_of f c l) R.straight.ok R.sum.ok R.least.ok R.apart
 
     -- and back: the first leg out of reach answers
-    pub out_of_reach_answers : (n k : ℕ) → FirstOut n k → told (LegRefused n k) ≡ strict_told f c
+    pub out_of_reach_answers : (n k : ℕ) → FirstOut n k → leg_refused n k ≡ strict_told f c
     out_of_reach_answers n k P =
         strict_so (leg_refused n k) P.let_in
         (sym (all_pass (side_refusal f c) in_reach (λ l. passed_at (coxa_of f c l) (P.none_past l))

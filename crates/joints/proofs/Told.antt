@@ -15,26 +15,17 @@ use Rattle.numbers.proofs.OnePass.{none_refused, let_through, kept_out, and_left
 use Rattle.numbers.proofs.Flags.{by_test, where_true, where_false}
 use Rattle.legs.specs.Legs.{Leg, left_front, right_front, left_middle, right_middle, left_rear, right_rear}
 use Rattle.legs.specs.Legs.{row, finite_feet, permitted_feet}
-use Rattle.legs.specs.declared.Feet.{Feet}
-use Rattle.legs.specs.declared.Joints.{Joints}
+use Rattle.legs.specs.Legs.{Feet}
+use Rattle.legs.specs.Legs.{Joints}
 use Rattle.joints.specs.Configured.{finite_configuration, permitted_configuration}
-use Rattle.joints.specs.Answers.{given_joints, leg_refused, first_leg, told_legs}
+use Rattle.joints.specs.Answers.{given_joints, leg_refused, first_leg}
 use Rattle.joints.specs.Inverse.{coxa_of, all_angles, ik_refusal, side_refusal, legs_told, ik_told}
 use Rattle.joints.specs.declared.configuration.Configuration.{Configuration}
-use Rattle.joints.specs.declared.unchecked.LegsSolved.TheVariants.{Joints as AllAngles, Refused as OneRefused}
 use Rattle.joints.proofs.OneAnswer.{one_refusal, with_floats, with_a_mark, past_the_door}
 use Rattle.joints.proofs.OnePass.{configuration_finite, feet_and_configuration}
+use Rattle.joints.proofs.LegsTold.{told_in_order}
 use Rattle.joints.proofs.FirstLeg.{leg_number, AllPass, OneNamed, first_leg_lem}
 use Rattle.joints.proofs.Sides.{PastSide, past_side}
-
--- ---- the two cases of six legs
-pub all_angles_told : (j : Joints) → told_legs (AllAngles j) ≡ given_joints j
-unfolding told_legs
-all_angles_told j = refl
-
-pub one_refused_told : (n k : ℕ) → told_legs (OneRefused n k) ≡ leg_refused n k
-unfolding told_legs
-one_refused_told n k = refl
 
 module _ (f : Feet) (c : Configuration) where
   -- ---- the door
@@ -79,8 +70,8 @@ module _ (f : Feet) (c : Configuration) where
 
   -- ---- a leg that is named
   pub refused_leg_below : (n k : ℕ) → leg_refused n k ≡ legs_told f c → (k ≤ 5) × (n ≤ 8) × (eqb n 0 ≡ false)
-  unfolding legs_told
-  refused_leg_below n k = by_first (first_leg_lem (side_refusal f c) (given_joints (all_angles f c)))
+  refused_leg_below n k e =
+      by_first (first_leg_lem (side_refusal f c) (given_joints (all_angles f c))) (e ∙ told_in_order f c)
     where
       few : (l : Leg) → leg_number l ≤ 5
       few left_front = omega arith
@@ -105,11 +96,11 @@ module _ (f : Feet) (c : Configuration) where
 
   -- ---- joints, where nothing is refused
   pub ik_given : eqb (ik_told f c).number 0 ≡ true → ik_told f c ≡ given_joints (all_angles f c)
-  unfolding ik_told legs_told
+  unfolding ik_told
   ik_given none =
       by_test (eqb (ik_refusal f c) 0)
       (λ b.
-      let behind = sym (where_true (eqb (ik_refusal f c) 0) (legs_told f c) (refused (ik_refusal f c)) b) in
+      let behind = sym (where_true (eqb (ik_refusal f c) 0) (legs_told f c) (refused (ik_refusal f c)) b) ∙ told_in_order f c in
       behind
       ∙ by_first (first_leg_lem (side_refusal f c) (given_joints (all_angles f c))) (ap (λ (t : Told). eqb t.number 0) (sym behind) ∙ none))
       (λ b.

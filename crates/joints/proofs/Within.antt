@@ -20,9 +20,9 @@ use Rattle.legs.proofs.Laws.{each_of_every}
 use Rattle.numbers.proofs.OnePass.{none_refused}
 use Rattle.bounds.proofs.Rows.{sine_row, atan2_row, root_row}
 use Rattle.legs.specs.declared.Point.{Point}
-use Rattle.legs.specs.declared.Feet.{Feet}
+use Rattle.legs.specs.Legs.{Feet}
 use Rattle.legs.specs.declared.LegAngles.{LegAngles}
-use Rattle.legs.specs.declared.Joints.{Joints}
+use Rattle.legs.specs.Legs.{Joints}
 use Rattle.joints.specs.Configured.{leg, permitted_leg, permitted_body, permitted_angles}
 use Rattle.joints.specs.Configured.{finite_configuration, permitted_configuration, finite_joints, permitted_joints}
 use Rattle.joints.specs.Degrees.{ninety, one_fifty}

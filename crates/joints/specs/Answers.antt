@@ -1,13 +1,13 @@
 -- Document 01's number and values for each case of an answer on joints, and request K2's: "both name the leg, 0 to 5 in 01's row order";
 -- so do the two of request K4. The leg is the one mark of such a refusal.
-use Rattle.std.specs.Prelude.{ℕ, suc, List, [], ◌∷◌, ◌==◌}
+use Rattle.std.specs.Prelude.{ℕ, suc, List, [], ◌∷◌, ◌==◌, Option, Some, None, Result, Ok, Err}
 use Rattle.numbers.specs.Told.{Told, refused, given, choose}
-use Rattle.legs.specs.Legs.{row, angles, joints_of, values}
-use Rattle.legs.specs.declared.Joints.{Joints}
-use Rattle.joints.specs.declared.Solution.{Solution}
-use Rattle.joints.specs.declared.Solution.TheVariants.{Solved, Refused, LegRefused}
-use Rattle.joints.specs.declared.unchecked.LegsSolved.{LegsSolved}
-use Rattle.joints.specs.declared.unchecked.LegsSolved.TheVariants.{Joints as AllAngles, Refused as OneRefused}
+use Rattle.numbers.specs.Refusals.{number_of}
+use Rattle.numbers.specs.declared.refusal.Refusal.{Refusal}
+use Rattle.legs.specs.Legs.{Joints, row, angles, joints_of, values}
+use Rattle.legs.specs.LegNumbers.{leg_number}
+use Rattle.legs.specs.declared.leg.Leg.{Leg}
+use Rattle.joints.specs.declared.refusal.SolverRefusal.{SolverRefusal}
 
 -- eighteen angles, in row order
 abbrev pub given_joints : Joints → Told
@@ -22,12 +22,25 @@ abbrev pub first_leg : List ℕ → ℕ → Told → Told
 first_leg [] k t = t
 first_leg (n ∷ ns) k t = choose (n == 0) (first_leg ns (suc k) t) (leg_refused n k)
 
-abbrev pub told : Solution → Told
-told (Solved j) = given_joints j
-told (Refused n) = refused n
-told (LegRefused n k) = leg_refused n k
+-- a refusal, with the leg where it names one; that of the door names none
+abbrev pub refused_at : ℕ → Option Leg → Told
+refused_at n None = refused n
+refused_at n (Some l) = leg_refused n (leg_number l)
 
--- the core's, of six legs that the door let in
-unfoldable pub told_legs : LegsSolved → Told
-told_legs (AllAngles j) = given_joints j
-told_legs (OneRefused n k) = leg_refused n k
+abbrev pub of_the_door : Refusal → SolverRefusal
+of_the_door r = record { refusal = r; leg = None }
+
+-- of any kind of answer: what its value says, or the refusal
+abbrev pub told_by : {A : Type 0} → (A → Told) → Result A SolverRefusal → Told
+told_by say (Ok a) = say a
+told_by say (Err r) = refused_at (number_of r.refusal) r.leg
+
+abbrev pub told : Result Joints SolverRefusal → Told
+told r = told_by given_joints r
+
+-- of a test, which gives nothing where it passes
+abbrev pub nothing : Told
+nothing = given [] []
+
+abbrev pub told_test : {A : Type 0} → Result A SolverRefusal → Told
+told_test {A} r = told_by (λ (a : A). nothing) r

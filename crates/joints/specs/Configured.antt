@@ -2,22 +2,15 @@
 use Rattle.std.specs.Prelude.{Bool, ◌&&◌}
 use Rattle.numbers.specs.Door.{finite, permits}
 use Rattle.numbers.specs.Limits.{foot_limit, rotation, correction, offset, leg_length, motor_angle}
-use Rattle.legs.specs.Legs.{Leg, left_front, right_front, left_middle, right_middle, left_rear, right_rear}
-use Rattle.legs.specs.Legs.{angles, every, finite_point, permitted_point}
+use Rattle.legs.specs.Legs.{Leg, Joints, at, angles, every, finite_point, permitted_point}
 use Rattle.legs.specs.declared.LegAngles.{LegAngles}
-use Rattle.legs.specs.declared.Joints.{Joints}
 use Rattle.joints.specs.declared.configuration.Body.{Body}
 use Rattle.joints.specs.declared.configuration.LegConfiguration.{LegConfiguration}
 use Rattle.joints.specs.declared.configuration.Configuration.{Configuration}
 
 -- what is a leg's own
 abbrev pub leg : Configuration → Leg → LegConfiguration
-leg c left_front = c.left_front
-leg c right_front = c.right_front
-leg c left_middle = c.left_middle
-leg c right_middle = c.right_middle
-leg c left_rear = c.left_rear
-leg c right_rear = c.right_rear
+leg c l = at c.legs l
 
 -- coxa coordinates, coxa angle offset, femur and tibia correction
 unfoldable pub finite_leg : LegConfiguration → Bool

@@ -12,10 +12,10 @@ use Rattle.legs.specs.Legs.{angles, six_points, marked}
 use Rattle.legs.specs.Vectors.{plus}
 use Rattle.legs.specs.Answers.{given_feet}
 use Rattle.legs.specs.declared.Point.{Point}
-use Rattle.legs.specs.declared.Points.{Points}
-use Rattle.legs.specs.declared.Feet.{Feet}
+use Rattle.legs.specs.Legs.{Points}
+use Rattle.legs.specs.Legs.{Feet}
 use Rattle.legs.specs.declared.LegAngles.{LegAngles}
-use Rattle.legs.specs.declared.Joints.{Joints}
+use Rattle.legs.specs.Legs.{Joints}
 use Rattle.joints.specs.Configured.{leg, finite_configuration, permitted_configuration, finite_joints, permitted_joints}
 use Rattle.joints.specs.Degrees.{ninety, one_fifty}
 use Rattle.joints.specs.declared.configuration.Body.{Body}

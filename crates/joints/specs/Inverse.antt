@@ -13,9 +13,9 @@ use Rattle.arcs.specs.How.{arc_cosine, atan2}
 use Rattle.legs.specs.Legs.{Leg, row, foot, joints, finite_feet, permitted_feet}
 use Rattle.legs.specs.Vectors.{minus}
 use Rattle.legs.specs.declared.Point.{Point}
-use Rattle.legs.specs.declared.Feet.{Feet}
+use Rattle.legs.specs.Legs.{Feet}
 use Rattle.legs.specs.declared.LegAngles.{LegAngles}
-use Rattle.legs.specs.declared.Joints.{Joints}
+use Rattle.legs.specs.Legs.{Joints}
 use Rattle.joints.specs.Configured.{leg, finite_configuration, permitted_configuration}
 use Rattle.joints.specs.Degrees.{ninety, minus_ninety, one_fifty}
 use Rattle.joints.specs.Answers.{given_joints, first_leg}

@@ -8,7 +8,7 @@ use Rattle.numbers.specs.Told.{Told, answer}
 use Rattle.numbers.specs.Door.{when, first_of}
 use Rattle.numbers.specs.Finite.{magnitude}
 use Rattle.legs.specs.Legs.{Leg, row, foot}
-use Rattle.legs.specs.declared.Feet.{Feet}
+use Rattle.legs.specs.Legs.{Feet}
 use Rattle.joints.specs.Configured.{leg}
 use Rattle.joints.specs.Answers.{given_joints, first_leg}
 use Rattle.joints.specs.Inverse.{relative_vector, distance, ik_refusal, side_refusal, all_angles}

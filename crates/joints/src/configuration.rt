@@ -3,11 +3,11 @@ ghost use Rattle.std.specs.Prelude.{◌≡◌};
 ghost use Rattle.joints.specs.Configured.{finite_body, permitted_body, finite_leg, permitted_leg, finite_angles, permitted_angles};
 ghost use Rattle.joints.specs.Configured.{finite_configuration, permitted_configuration, finite_joints, permitted_joints};
 
-use legs::{Joints, LegAngles, Point};
+use legs::{HexapodTypes, Joints, LegAngles, Point};
 use numbers::{door, limits};
 
-// What all legs share: the lengths of a leg's three parts, and how far its femur and tibia motors are turned.
-#[derive(Clone, Copy)]
+/// What all legs share: the lengths of a leg's three parts in metres, and how far its femur and tibia motors are turned, in radians.
+#[derive(Clone, Copy, Debug, PartialEq)]
 pub struct Body {
     pub coxa_length: f32,
     pub femur_length: f32,
@@ -16,8 +16,8 @@ pub struct Body {
     pub tibia_offset: f32,
 }
 
-// What is a leg's own: where its coxa sits, how that is turned, and what its femur and tibia motors are off by.
-#[derive(Clone, Copy)]
+/// What is a leg's own: where its coxa sits, how that is turned, and what its femur and tibia motors are off by.
+#[derive(Clone, Copy, Debug, PartialEq)]
 pub struct LegConfiguration {
     pub position: Point,
     pub angle_offset: f32,
@@ -25,19 +25,15 @@ pub struct LegConfiguration {
     pub tibia_correction: f32,
 }
 
-// The body and its six legs.
-#[derive(Clone, Copy)]
+/// The body and its six legs.
+#[derive(Clone, Copy, Debug, PartialEq)]
 pub struct Configuration {
     pub body: Body,
-    pub left_front: LegConfiguration,
-    pub left_middle: LegConfiguration,
-    pub left_rear: LegConfiguration,
-    pub right_front: LegConfiguration,
-    pub right_middle: LegConfiguration,
-    pub right_rear: LegConfiguration,
+    pub legs: HexapodTypes<LegConfiguration>,
 }
 
-// Whether the body's five floats are finite.
+/// Whether the body's five floats are finite.
+#[tactic(auto, unfolding(crate::specs::Configured::finite_body))]
 pub fn body_finite(b: Body) -> bool
     ensures { result ≡ finite_body b }
 {
@@ -48,7 +44,8 @@ pub fn body_finite(b: Body) -> bool
         & door::is_finite(b.tibia_offset)
 }
 
-// Whether the body's five floats are in the table.
+/// Whether the body's five floats are in the table.
+#[tactic(auto, unfolding(crate::specs::Configured::permitted_body))]
 pub fn body_permitted(b: Body) -> bool
     ensures { result ≡ permitted_body b }
 {
@@ -61,7 +58,8 @@ pub fn body_permitted(b: Body) -> bool
         & door::is_permitted(offset, b.tibia_offset)
 }
 
-// Whether a leg's own six floats are finite.
+/// Whether a leg's own six floats are finite.
+#[tactic(auto, unfolding(crate::specs::Configured::finite_leg))]
 pub fn leg_finite(l: LegConfiguration) -> bool
     ensures { result ≡ finite_leg l }
 {
@@ -71,7 +69,8 @@ pub fn leg_finite(l: LegConfiguration) -> bool
         & door::is_finite(l.tibia_correction)
 }
 
-// Whether a leg's own six floats are in the table.
+/// Whether a leg's own six floats are in the table.
+#[tactic(auto, unfolding(crate::specs::Configured::permitted_leg))]
 pub fn leg_permitted(l: LegConfiguration) -> bool
     ensures { result ≡ permitted_leg l }
 {
@@ -82,40 +81,32 @@ pub fn leg_permitted(l: LegConfiguration) -> bool
         & door::is_permitted(correction, l.tibia_correction)
 }
 
-// Whether all 41 floats are finite.
+/// Whether all 41 floats are finite.
+#[tactic(auto, unfolding(crate::specs::Configured::finite_configuration))]
 pub fn finite(c: Configuration) -> bool
     ensures { result ≡ finite_configuration c }
 {
-    leg_finite(c.left_front)
-        & leg_finite(c.right_front)
-        & leg_finite(c.left_middle)
-        & leg_finite(c.right_middle)
-        & leg_finite(c.left_rear)
-        & leg_finite(c.right_rear)
-        & body_finite(c.body)
+    c.legs.map(|leg| leg_finite(leg)).all() & body_finite(c.body)
 }
 
-// Whether all 41 floats are in the table.
+/// Whether all 41 floats are in the table.
+#[tactic(auto, unfolding(crate::specs::Configured::permitted_configuration))]
 pub fn permitted(c: Configuration) -> bool
     ensures { result ≡ permitted_configuration c }
 {
-    leg_permitted(c.left_front)
-        & leg_permitted(c.right_front)
-        & leg_permitted(c.left_middle)
-        & leg_permitted(c.right_middle)
-        & leg_permitted(c.left_rear)
-        & leg_permitted(c.right_rear)
-        & body_permitted(c.body)
+    c.legs.map(|leg| leg_permitted(leg)).all() & body_permitted(c.body)
 }
 
-// Whether a leg's three motor angles are finite.
+/// Whether a leg's three motor angles are finite.
+#[tactic(auto, unfolding(crate::specs::Configured::finite_angles))]
 pub fn angles_finite(a: LegAngles) -> bool
     ensures { result ≡ finite_angles a }
 {
     door::is_finite(a.coxa) & door::is_finite(a.femur) & door::is_finite(a.tibia)
 }
 
-// Whether a leg's three motor angles are in the table.
+/// Whether a leg's three motor angles are in the table.
+#[tactic(auto, unfolding(crate::specs::Configured::permitted_angles))]
 pub fn angles_permitted(a: LegAngles) -> bool
     ensures { result ≡ permitted_angles a }
 {
@@ -125,26 +116,16 @@ pub fn angles_permitted(a: LegAngles) -> bool
         & door::is_permitted(limit, a.tibia)
 }
 
-// Whether all eighteen motor angles are finite.
+/// Whether all eighteen motor angles are finite.
 pub fn joints_finite(j: Joints) -> bool
     ensures { result ≡ finite_joints j }
 {
-    angles_finite(j.left_front)
-        & angles_finite(j.right_front)
-        & angles_finite(j.left_middle)
-        & angles_finite(j.right_middle)
-        & angles_finite(j.left_rear)
-        & angles_finite(j.right_rear)
+    j.map(|angles| angles_finite(angles)).all()
 }
 
-// Whether all eighteen motor angles are in the table.
+/// Whether all eighteen motor angles are in the table.
 pub fn joints_permitted(j: Joints) -> bool
     ensures { result ≡ permitted_joints j }
 {
-    angles_permitted(j.left_front)
-        & angles_permitted(j.right_front)
-        & angles_permitted(j.left_middle)
-        & angles_permitted(j.right_middle)
-        & angles_permitted(j.left_rear)
-        & angles_permitted(j.right_rear)
+    j.map(|angles| angles_permitted(angles)).all()
 }

@@ -1,14 +1,18 @@
 // The solvers behind the door, total on every value, for the rooms above. The order of the float operations is the source's.
-ghost use Rattle.std.specs.Prelude.{◌≡◌, ◌||◌};
-ghost use Rattle.joints.specs.Answers.{told_legs};
-ghost use Rattle.joints.specs.Inverse.{relative_vector, get_alpha_angle, corrected, past_positive, past_negative, legs_told};
+ghost use Rattle.std.specs.Prelude.{◌≡◌, ◌||◌, ◌∷◌, []};
+ghost use Rattle.numbers.specs.Refusals.{number_or_0};
+ghost use Rattle.legs.specs.LegNumbers.{leg_number};
+ghost use Rattle.joints.specs.Answers.{told, told_test, nothing, first_leg};
+ghost use Rattle.joints.specs.Inverse.{relative_vector, get_alpha_angle, corrected, past_positive, past_negative, past_refusal, legs_told};
 ghost use Rattle.joints.specs.Strict.{farthest, nearest, distance_refusal, strict_legs_told};
-ghost use Rattle.joints.specs.How.{distances, heading, headings, solved_angles, past_at, earlier, first_past, first_out_of_reach};
+ghost use Rattle.joints.specs.How.{distances, heading, headings, solved_angles, all_solved, IsTestOf, past_refusals, reach_refusals};
 ghost use Rattle.joints.specs.How.{bends_of, all_bends, Stands};
 ghost use Rattle.joints.specs.Forward.{from_motor, standing_points};
 
+use crate::SolverRefusal;
 use crate::configuration::{Body, Configuration, LegConfiguration};
-use legs::{Feet, Joints, LegAngles, Point, Points};
+use legs::{Feet, HexapodTypes, Joints, Leg, LegAngles, Point, Points};
+use numbers::Refusal;
 use sines::unchecked::Turn;
 
 // Rust's `to_radians` of 90 and 150 degrees: 3fc90fdb and 40278d36.
@@ -16,47 +20,23 @@ const NINETY: f32 = 1.5707964;
 
 const ONE_FIFTY: f32 = 2.6179938;
 
-// How far a foot is from the end of its coxa: sideways, and straight.
-#[derive(Clone, Copy)]
+/// How far a foot is from the end of its coxa: sideways, and straight. Metres.
+#[derive(Clone, Copy, Debug, PartialEq)]
 pub struct Distances {
     pub horizontal: f32,
     pub distance: f32,
 }
 
-// How a leg sets out: from its coxa to the target, its coxa's angle, and how far the foot is.
-#[derive(Clone, Copy)]
+/// How a leg sets out: from its coxa to the target, its coxa's angle in radians, and how far the foot is.
+#[derive(Clone, Copy, Debug, PartialEq)]
 pub struct Heading {
     pub relative_vector: Point,
     pub target_angle: f32,
     pub distances: Distances,
 }
 
-// Six legs that have set out.
-#[derive(Clone, Copy)]
-pub struct Headings {
-    pub left_front: Heading,
-    pub left_middle: Heading,
-    pub left_rear: Heading,
-    pub right_front: Heading,
-    pub right_middle: Heading,
-    pub right_rear: Heading,
-}
-
-// A leg that is refused: its number in row order, 0 to 5, and its refusal. Where no leg is refused, both are 0.
-#[derive(Clone, Copy)]
-pub struct RefusedLeg {
-    pub leg: u32,
-    pub refusal: u32,
-}
-
-// What six legs answer: their angles, or the refusal of the first leg that is refused, and that leg.
-#[derive(Clone, Copy)]
-pub enum LegsSolved {
-    Joints(Joints),
-    Refused(u32, u32),
-}
-
-// From the coxa's place to the target.
+/// From the coxa's place to the target.
+#[tactic(auto, unfolding(legs::specs::Vectors::minus))]
 pub fn relative_vector(target: Point, leg: LegConfiguration) -> Point
     ensures { result ≡ relative_vector target leg }
 {
@@ -67,19 +47,21 @@ pub fn relative_vector(target: Point, leg: LegConfiguration) -> Point
     }
 }
 
-// How far the foot at v is from the end of a coxa of this length.
+/// How far the foot at v is from the end of a coxa of this length.
+#[tactic(auto, unfolding(crate::specs::Inverse::horizontal_distance, crate::specs::Inverse::distance))]
 pub fn distances_of(v: Point, coxa_length: f32) -> Distances
     ensures { result ≡ distances v coxa_length }
 {
     let horizontal = roots::unchecked::square_root(v.x * v.x + v.y * v.y) - coxa_length;
     let distance = roots::unchecked::square_root(horizontal * horizontal + v.z * v.z);
     Distances {
-        horizontal: horizontal,
-        distance: distance,
+        horizontal,
+        distance,
     }
 }
 
-// The angle across from a, in a triangle with sides a, b, c. A quotient out of reach is cut to -1 or 1, and a NaN becomes 1.
+/// The angle across from a, in a triangle with sides a, b, c. A quotient out of reach is cut to -1 or 1, and a NaN becomes 1.
+#[tactic(auto, unfolding(crate::specs::Inverse::quotient, crate::specs::Inverse::cut, crate::specs::Inverse::get_alpha_angle))]
 pub fn get_alpha_angle(a: f32, b: f32, c: f32) -> f32
     ensures { result ≡ get_alpha_angle a b c }
 {
@@ -92,14 +74,16 @@ pub fn get_alpha_angle(a: f32, b: f32, c: f32) -> f32
     ))
 }
 
-// What a motor is told, for an angle in the leg.
+/// What a motor is told, for an angle in the leg.
+#[tactic(auto, unfolding(crate::specs::Inverse::corrected))]
 pub fn corrected(correction: f32, offset: f32, angle: f32) -> f32
     ensures { result ≡ corrected correction offset angle }
 {
     numbers::unchecked::absolute(correction + offset + angle)
 }
 
-// How one leg sets out.
+/// How one leg sets out.
+#[tactic(auto, unfolding(crate::specs::Inverse::coxa_angle, crate::specs::How::heading))]
 pub fn set_out(target: Point, body: Body, leg: LegConfiguration) -> Heading
     ensures { result ≡ heading target body leg }
 {
@@ -108,27 +92,31 @@ pub fn set_out(target: Point, body: Body, leg: LegConfiguration) -> Heading
     let distances = distances_of(v, body.coxa_length);
     Heading {
         relative_vector: v,
-        target_angle: target_angle,
-        distances: distances,
+        target_angle,
+        distances,
     }
 }
 
-// How six legs set out, by their feet's points: all before one is solved, so that their roots are taken side by side.
-pub fn all_set_out(feet: Feet, config: Configuration) -> Headings
+/// How six legs set out, by their feet's points: all before one is solved, so that their roots are taken side by side.
+// Kept: written out for each leg, here and in `all_solved`. By `zip_with` in both a leg goes through memory: a solved pose takes 1.065 of
+// the instructions, and a refused one 1.054.
+#[tactic(auto, unfolding(crate::specs::How::headings))]
+pub fn all_set_out(feet: Feet, config: Configuration) -> HexapodTypes<Heading>
     ensures { result ≡ headings feet config }
 {
     let body = config.body;
-    Headings {
-        left_front: set_out(feet.left_front.point, body, config.left_front),
-        left_middle: set_out(feet.left_middle.point, body, config.left_middle),
-        left_rear: set_out(feet.left_rear.point, body, config.left_rear),
-        right_front: set_out(feet.right_front.point, body, config.right_front),
-        right_middle: set_out(feet.right_middle.point, body, config.right_middle),
-        right_rear: set_out(feet.right_rear.point, body, config.right_rear),
+    HexapodTypes {
+        left_front: set_out(feet.left_front.point, body, config.legs.left_front),
+        left_middle: set_out(feet.left_middle.point, body, config.legs.left_middle),
+        left_rear: set_out(feet.left_rear.point, body, config.legs.left_rear),
+        right_front: set_out(feet.right_front.point, body, config.legs.right_front),
+        right_middle: set_out(feet.right_middle.point, body, config.legs.right_middle),
+        right_rear: set_out(feet.right_rear.point, body, config.legs.right_rear),
     }
 }
 
-// The three angles of a leg that has set out.
+/// The three angles of a leg that has set out.
+#[tactic(auto, unfolding(crate::specs::Inverse::motor_angles, crate::specs::How::solved_angles, crate::specs::Degrees::one_fifty))]
 pub fn calculate_ik_for_leg(heading: Heading, body: Body, leg: LegConfiguration) -> LegAngles
     ensures { result ≡ solved_angles heading body leg }
 {
@@ -147,6 +135,25 @@ pub fn calculate_ik_for_leg(heading: Heading, body: Body, leg: LegConfiguration)
     }
 }
 
+// The angles of six legs that have set out.
+// Both solvers take them from here. Put into each, that costs nothing; apart, the whole configuration would go through memory.
+// Kept: written out for each leg, as in `all_set_out`.
+#[inline(always)]
+#[tactic(auto, unfolding(crate::specs::How::all_solved))]
+fn all_solved(six: HexapodTypes<Heading>, config: Configuration) -> Joints
+    ensures { result ≡ all_solved six config }
+{
+    let body = config.body;
+    Joints {
+        left_front: calculate_ik_for_leg(six.left_front, body, config.legs.left_front),
+        left_middle: calculate_ik_for_leg(six.left_middle, body, config.legs.left_middle),
+        left_rear: calculate_ik_for_leg(six.left_rear, body, config.legs.left_rear),
+        right_front: calculate_ik_for_leg(six.right_front, body, config.legs.right_front),
+        right_middle: calculate_ik_for_leg(six.right_middle, body, config.legs.right_middle),
+        right_rear: calculate_ik_for_leg(six.right_rear, body, config.legs.right_rear),
+    }
+}
+
 // Whether a coxa at this angle is past its limit, on either side.
 fn is_past(angle: f32) -> bool
     ensures { result ≡ (past_positive angle || past_negative angle) }
@@ -154,152 +161,127 @@ fn is_past(angle: f32) -> bool
     (angle >= NINETY) | (angle <= -NINETY)
 }
 
-// A leg that is past its limit, with the refusal of the side that its coxa's angle is on.
-fn past_at(leg: u32, angle: f32) -> RefusedLeg
-    ensures { result ≡ past_at leg angle }
+// Nothing where a coxa at this angle is short of its limit; else the refusal of the side that it is on.
+#[tactic(auto, unfolding(crate::specs::Inverse::past_refusal, crate::specs::Degrees::ninety))]
+fn admit_angle(angle: f32) -> Result<(), Refusal>
+    ensures { number_or_0 result ≡ past_refusal angle }
 {
-    if angle >= NINETY {
-        RefusedLeg {
-            leg: leg,
-            refusal: 6,
-        }
+    if !is_past(angle) {
+        Ok(())
+    } else if angle >= NINETY {
+        Err(Refusal::PastPositive)
     } else {
-        RefusedLeg {
-            leg: leg,
-            refusal: 8,
-        }
+        Err(Refusal::PastNegative)
     }
 }
 
-// The first leg that is past its limit, of six that have set out.
-fn first_past(headings: Headings) -> RefusedLeg
-    ensures { result ≡ first_past headings }
-{
-    if is_past(headings.left_front.target_angle) {
-        past_at(0, headings.left_front.target_angle)
-    } else if is_past(headings.right_front.target_angle) {
-        past_at(1, headings.right_front.target_angle)
-    } else if is_past(headings.left_middle.target_angle) {
-        past_at(2, headings.left_middle.target_angle)
-    } else if is_past(headings.right_middle.target_angle) {
-        past_at(3, headings.right_middle.target_angle)
-    } else if is_past(headings.left_rear.target_angle) {
-        past_at(4, headings.left_rear.target_angle)
-    } else if is_past(headings.right_rear.target_angle) {
-        past_at(5, headings.right_rear.target_angle)
-    } else {
-        RefusedLeg { leg: 0, refusal: 0 }
-    }
-}
-
-// How far from its coxa's end a foot may be, and how near: femur and tibia in one line, and folded.
+/// How far from its coxa's end a foot may be: femur and tibia in one line.
+#[tactic(auto, unfolding(crate::specs::Strict::farthest))]
 pub fn farthest(body: Body) -> f32
     ensures { result ≡ farthest body }
 {
     body.femur_length + body.tibia_length
 }
 
+/// How near to it: femur and tibia folded.
+#[tactic(auto, unfolding(crate::specs::Strict::nearest))]
 pub fn nearest(body: Body) -> f32
     ensures { result ≡ nearest body }
 {
     numbers::unchecked::absolute(body.femur_length - body.tibia_length)
 }
 
-// A leg whose foot is at this distance: where it is out of reach its refusal, 9 too far, 10 too near; else what legs after it say.
-fn out_of_reach(
-    leg: u32,
-    distance: f32,
-    farthest: f32,
-    nearest: f32,
-    later: RefusedLeg,
-) -> RefusedLeg
-    ensures { result ≡ earlier (distance_refusal distance farthest nearest) leg later }
+// Nothing where a foot at this distance is within reach.
+#[tactic(auto, unfolding(crate::specs::Strict::distance_refusal))]
+fn admit_distance(distance: f32, farthest: f32, nearest: f32) -> Result<(), Refusal>
+    ensures { number_or_0 result ≡ distance_refusal distance farthest nearest }
 {
     if farthest < distance {
-        RefusedLeg {
-            leg: leg,
-            refusal: 9,
-        }
+        Err(Refusal::TooFar)
     } else if distance < nearest {
-        RefusedLeg {
-            leg: leg,
-            refusal: 10,
-        }
+        Err(Refusal::TooNear)
     } else {
-        later
+        Ok(())
     }
 }
 
-// The first leg that is out of reach, of six that have set out: from the last to the first, each is one choice.
-fn first_out_of_reach(six: Headings, body: Body) -> RefusedLeg
-    ensures { result ≡ first_out_of_reach six body }
+// What a test says of a leg, with the leg's name.
+#[tactic(auto, using(numbers::proofs::Numbers::has_a_number))]
+fn of_leg(leg: Leg, test: Result<(), Refusal>) -> Result<(), SolverRefusal>
+    ensures { told_test result ≡ first_leg (number_or_0 test ∷ []) (leg_number leg) nothing }
+{
+    test.map_err(|refusal| SolverRefusal {
+        refusal,
+        leg: Some(leg),
+    })
+}
+
+// Nothing where all six legs pass the test; else the first in row order that does not, with its refusal.
+fn all_pass<F: Fn(Heading) -> Result<(), Refusal>>(
+    six: HexapodTypes<Heading>,
+    test: F,
+) -> Result<(), SolverRefusal>
+    requires { F.IsAlwaysCallable test }
+    ensures { IsTestOf (F.post test) six result }
+{
+    of_leg(Leg::LeftFront, test(six.left_front))?;
+    of_leg(Leg::RightFront, test(six.right_front))?;
+    of_leg(Leg::LeftMiddle, test(six.left_middle))?;
+    of_leg(Leg::RightMiddle, test(six.right_middle))?;
+    of_leg(Leg::LeftRear, test(six.left_rear))?;
+    of_leg(Leg::RightRear, test(six.right_rear))
+}
+
+// The first leg that is past its limit, of six that have set out.
+fn admit_angles(six: HexapodTypes<Heading>) -> Result<(), SolverRefusal>
+    ensures { told_test result ≡ first_leg (past_refusals six) 0 nothing }
+{
+    all_pass(six, |heading| admit_angle(heading.target_angle))
+}
+
+// The first leg whose foot is out of reach, of six that have set out.
+fn admit_distances(six: HexapodTypes<Heading>, body: Body) -> Result<(), SolverRefusal>
+    ensures { told_test result ≡ first_leg (reach_refusals six body) 0 nothing }
 {
     let far = farthest(body);
     let near = nearest(body);
-    let none = RefusedLeg { leg: 0, refusal: 0 };
-    let from_5 = out_of_reach(5, six.right_rear.distances.distance, far, near, none);
-    let from_4 = out_of_reach(4, six.left_rear.distances.distance, far, near, from_5);
-    let from_3 = out_of_reach(3, six.right_middle.distances.distance, far, near, from_4);
-    let from_2 = out_of_reach(2, six.left_middle.distances.distance, far, near, from_3);
-    let from_1 = out_of_reach(1, six.right_front.distances.distance, far, near, from_2);
-    out_of_reach(0, six.left_front.distances.distance, far, near, from_1)
+    all_pass(
+        six,
+        |heading| admit_distance(heading.distances.distance, far, near),
+    )
 }
 
-// Six legs, in the source's order; the first that is past its limit answers for all.
-pub fn calculate_ik(feet: Feet, config: Configuration) -> LegsSolved
-    ensures { told_legs result ≡ legs_told feet config }
+/// Six legs, in the source's order; the first that is past its limit answers for all.
+#[tactic(auto, using(crate::proofs::LegsTold::old))]
+pub fn calculate_ik(feet: Feet, config: Configuration) -> Result<Joints, SolverRefusal>
+    ensures { told result ≡ legs_told feet config }
 {
-    let body = config.body;
     let six = all_set_out(feet, config);
-    let past = first_past(six);
-    if past.refusal == 0 {
-        LegsSolved::Joints(Joints {
-            left_front: calculate_ik_for_leg(six.left_front, body, config.left_front),
-            left_middle: calculate_ik_for_leg(six.left_middle, body, config.left_middle),
-            left_rear: calculate_ik_for_leg(six.left_rear, body, config.left_rear),
-            right_front: calculate_ik_for_leg(six.right_front, body, config.right_front),
-            right_middle: calculate_ik_for_leg(six.right_middle, body, config.right_middle),
-            right_rear: calculate_ik_for_leg(six.right_rear, body, config.right_rear),
-        })
-    } else {
-        LegsSolved::Refused(past.refusal, past.leg)
-    }
+    admit_angles(six)?;
+    Ok(all_solved(six, config))
 }
 
-// The same, strict: where no leg is past its limit, the first that is out of reach answers for all. The six legs are written out once more:
-// a function with two callers would not be put into either, and both would pay for that.
-pub fn calculate_ik_strict(feet: Feet, config: Configuration) -> LegsSolved
-    ensures { told_legs result ≡ strict_legs_told feet config }
+/// The same, strict: where no leg is past its limit, the first that is out of reach answers for all.
+#[tactic(auto, using(crate::proofs::LegsTold::strict))]
+pub fn calculate_ik_strict(feet: Feet, config: Configuration) -> Result<Joints, SolverRefusal>
+    ensures { told result ≡ strict_legs_told feet config }
 {
-    let body = config.body;
     let six = all_set_out(feet, config);
-    let past = first_past(six);
-    let out = first_out_of_reach(six, body);
-    if past.refusal != 0 {
-        LegsSolved::Refused(past.refusal, past.leg)
-    } else if out.refusal != 0 {
-        LegsSolved::Refused(out.refusal, out.leg)
-    } else {
-        LegsSolved::Joints(Joints {
-            left_front: calculate_ik_for_leg(six.left_front, body, config.left_front),
-            left_middle: calculate_ik_for_leg(six.left_middle, body, config.left_middle),
-            left_rear: calculate_ik_for_leg(six.left_rear, body, config.left_rear),
-            right_front: calculate_ik_for_leg(six.right_front, body, config.right_front),
-            right_middle: calculate_ik_for_leg(six.right_middle, body, config.right_middle),
-            right_rear: calculate_ik_for_leg(six.right_rear, body, config.right_rear),
-        })
-    }
+    admit_angles(six)?;
+    admit_distances(six, config.body)?;
+    Ok(all_solved(six, config))
 }
 
-// The angle in the leg, for what its motor says.
+/// The angle in the leg, for what its motor says.
+#[tactic(auto, unfolding(crate::specs::Forward::from_motor))]
 pub fn from_motor(motor: f32, correction: f32, offset: f32) -> f32
     ensures { result ≡ from_motor motor correction offset }
 {
     numbers::unchecked::absolute(motor - numbers::unchecked::absolute(correction + offset))
 }
 
-// How far a leg's three parts are turned: the coxa from straight ahead, the femur and the tibia in the leg's own plane.
-#[derive(Clone, Copy)]
+/// How far a leg's three parts are turned: the coxa from straight ahead, the femur and the tibia in the leg's own plane. Radians.
+#[derive(Clone, Copy, Debug, PartialEq)]
 pub struct Bends {
     pub base: f32,
     pub femur: f32,
@@ -321,16 +303,18 @@ fn bends_of(motors: LegAngles, body: Body, leg: LegConfiguration) -> Bends
 }
 
 // The bends of six legs, three each, leg by leg.
+#[tactic(auto, unfolding(crate::specs::How::all_bends))]
 fn all_bends(joints: Joints, config: Configuration) -> [f32; 18]
     ensures { result ≡ all_bends joints config }
 {
     let body = config.body;
-    let a = bends_of(joints.left_front, body, config.left_front);
-    let b = bends_of(joints.left_middle, body, config.left_middle);
-    let c = bends_of(joints.left_rear, body, config.left_rear);
-    let d = bends_of(joints.right_front, body, config.right_front);
-    let e = bends_of(joints.right_middle, body, config.right_middle);
-    let f = bends_of(joints.right_rear, body, config.right_rear);
+    let six = joints.zip_with(config.legs, |motors, leg| bends_of(motors, body, leg));
+    let a = six.left_front;
+    let b = six.left_middle;
+    let c = six.left_rear;
+    let d = six.right_front;
+    let e = six.right_middle;
+    let f = six.right_rear;
     [
         a.base, a.femur, a.tibia, b.base, b.femur, b.tibia, c.base, c.femur, c.tibia, d.base,
         d.femur, d.tibia, e.base, e.femur, e.tibia, f.base, f.femur, f.tibia,
@@ -338,6 +322,7 @@ fn all_bends(joints: Joints, config: Configuration) -> [f32; 18]
 }
 
 // Where one foot stands, by the sines and cosines of its leg's bends.
+#[tactic(auto, unfolding(legs::specs::Vectors::plus, crate::specs::Forward::standing))]
 fn standing(base: Turn, femur: Turn, tibia: Turn, body: Body, leg: LegConfiguration) -> Point
     ensures { Stands base femur tibia body leg result }
 {
@@ -358,18 +343,20 @@ fn standing(base: Turn, femur: Turn, tibia: Turn, body: Body, leg: LegConfigurat
     }
 }
 
-// Six points, leg by leg: all sines and cosines before the first point, so that they are taken side by side.
+/// Six points, leg by leg: all sines and cosines before the first point, so that they are taken side by side.
+// Kept: the eighteen bends are one row, and each leg's three turns are read from it by their places. Six sines and cosines that are taken
+// leg by leg are slower, since no two legs' chains overlap then.
 pub fn calculate_fk(joints: Joints, config: Configuration) -> Points
     ensures { result ≡ standing_points joints config }
 {
     let body = config.body;
     let t = sines::eighteen::turns(all_bends(joints, config));
     Points {
-        left_front: standing(t[0], t[1], t[2], body, config.left_front),
-        left_middle: standing(t[3], t[4], t[5], body, config.left_middle),
-        left_rear: standing(t[6], t[7], t[8], body, config.left_rear),
-        right_front: standing(t[9], t[10], t[11], body, config.right_front),
-        right_middle: standing(t[12], t[13], t[14], body, config.right_middle),
-        right_rear: standing(t[15], t[16], t[17], body, config.right_rear),
+        left_front: standing(t[0], t[1], t[2], body, config.legs.left_front),
+        left_middle: standing(t[3], t[4], t[5], body, config.legs.left_middle),
+        left_rear: standing(t[6], t[7], t[8], body, config.legs.left_rear),
+        right_front: standing(t[9], t[10], t[11], body, config.legs.right_front),
+        right_middle: standing(t[12], t[13], t[14], body, config.legs.right_middle),
+        right_rear: standing(t[15], t[16], t[17], body, config.legs.right_rear),
     }
 }

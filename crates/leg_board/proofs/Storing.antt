@@ -1,18 +1,17 @@
 -- What the C function answers and stores, from what the step tells of numbers that are read. Assumes nothing.
 use mathlib.Core.Path.{◌≡◌, sym, ap, ap₂, ◌∙◌}
-use mathlib.Core.Bool.{Bool, true, false}
 use Prim.Native.Nat.{ℕ}
 use lib.Dec.{eqb}
-use lib.IntN.{ℤ, nat_abs}
+use lib.IntN.{ℤ}
 use mir.Syntax.{w32}
 use mir.Val.{SFits}
-use Rattle.numbers.specs.Told.{choose}
+use Rattle.std.specs.Prelude.{Result, Ok, Err}
+use Rattle.numbers.specs.Refusals.{number_of}
+use Rattle.numbers.specs.declared.refusal.Refusal.{Refusal}
 use Rattle.numbers.proofs.Flags.{where_true, where_false}
-use Rattle.wholes.specs.Wholes.{refusal, whole_step}
+use Rattle.wholes.specs.Wholes.{refusal}
 use Rattle.wholes.specs.Answers.{told, step_leg_told}
 use Rattle.wholes.specs.declared.WholePoint.{WholePoint}
-use Rattle.wholes.specs.declared.WholeStep.{WholeStep}
-use Rattle.wholes.specs.declared.WholeStep.TheVariants.{At, Refused}
 use Rattle.wholes.proofs.Steps.{read, as_read, same_point}
 use Rattle.wholes.proofs.Exactly.{at_is, refused_is}
 use Rattle.leg_board.specs.Stored.{point, stored}
@@ -25,10 +24,10 @@ pub same_told : {a b c d : WholePoint} {h i p q : ℤ} → a ≡ b → c ≡ d �
 same_told {a} {b} {c} {d} {h} {i} {p} {q} e f g k =
     ap₂ (λ (x y : WholePoint). step_leg_told x y h p) e f ∙ ap₂ (λ (x y : ℤ). step_leg_told b d x y) g k
 
-module _ (start target held : WholePoint) (height progress : ℤ) (r : WholeStep)
+module _ (start target held : WholePoint) (height progress : ℤ) (r : Result WholePoint Refusal)
     (tells : told r ≡ step_leg_told start target height progress)
   where
-    pub stored_at : (foot : WholePoint) → r ≡ At foot
+    pub stored_at : (foot : WholePoint) → r ≡ Ok foot
         → (0 ≡ refusal start target height progress) × (foot ≡ stored start target height progress held)
     stored_at foot e =
         let a = at_is start target height progress foot (sym (ap told e) ∙ tells) in (
@@ -36,8 +35,8 @@ module _ (start target held : WholePoint) (height progress : ℤ) (r : WholeStep
           a.1 ∙ where_true (eqb (refusal start target height progress) 0) _ held (ap (λ (n : ℕ). eqb n 0) a.0),
         )
 
-    pub kept : (n : ℕ) → r ≡ Refused n
-        → (n ≡ refusal start target height progress) × (held ≡ stored start target height progress held)
-    kept n e =
-        let a = refused_is start target height progress n (sym (ap told e) ∙ tells) in
+    pub kept : (why : Refusal) → r ≡ Err why
+        → (number_of why ≡ refusal start target height progress) × (held ≡ stored start target height progress held)
+    kept why e =
+        let a = refused_is start target height progress why (sym (ap told e) ∙ tells) in
         (a.0, where_false (eqb (refusal start target height progress) 0) _ held a.1)

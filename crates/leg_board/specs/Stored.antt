@@ -1,5 +1,5 @@
 -- Request K13 for a C host: a point by its three numbers, and what the three lent numbers hold after a call.
-use Rattle.std.specs.Prelude.{ℕ, eqb, ℤ, nat_abs}
+use Rattle.std.specs.Prelude.{eqb, ℤ, nat_abs}
 use Rattle.numbers.specs.Told.{choose}
 use Rattle.wholes.specs.Wholes.{refusal, whole_step}
 use Rattle.wholes.specs.declared.WholePoint.{WholePoint}

@@ -11,7 +11,7 @@ use Rattle.legs.specs.Masks.{has}
 use Rattle.legs.specs.Select.{among, named, in_six_places, selected}
 use Rattle.legs.specs.How.{headed_by}
 use Rattle.legs.specs.declared.Foot.{Foot}
-use Rattle.legs.specs.declared.Feet.{Feet}
+use Rattle.legs.specs.Legs.{Feet}
 use Rattle.legs.specs.declared.RowOfSix.{RowOfSix}
 
 headed : (ps : List Foot) (flag : Bool) (p : Foot) → length ps < 6 →

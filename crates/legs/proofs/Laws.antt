@@ -6,11 +6,12 @@ use mathlib.Core.Path.{refl, ap}
 use native.Mathlib.Omega.{arith}
 use lib.Ieee.Fits.{and_i, and_l, and_r}
 use Rattle.legs.specs.Legs.{Leg, left_front, right_front, left_middle, right_middle, left_rear, right_rear}
-use Rattle.legs.specs.Legs.{row, every, point, six_points, points, foot, lifted, whole, feet, marked, from_row}
+use Rattle.legs.specs.Legs.{row, at, six_of_row, every, point, six_points, points, foot, lifted, whole, feet, marked, from_row}
 use Rattle.legs.specs.declared.Point.{Point}
-use Rattle.legs.specs.declared.Points.{Points}
+use Rattle.legs.specs.Legs.{Points}
 use Rattle.legs.specs.declared.Foot.{Foot}
-use Rattle.legs.specs.declared.Feet.{Feet}
+use Rattle.legs.specs.declared.six.HexapodTypes.{HexapodTypes}
+use Rattle.legs.specs.Legs.{Feet}
 
 pub point_of_six : (g : Leg → Point) (l : Leg) → point (six_points g) l ≡ g l
 point_of_six g left_front = refl
@@ -55,6 +56,17 @@ row_of_from (a ∷ b ∷ []) h = absurd (omega arith)
 row_of_from (a ∷ b ∷ c ∷ []) h = absurd (omega arith)
 row_of_from (a ∷ b ∷ c ∷ d ∷ []) h = absurd (omega arith)
 row_of_from (a ∷ b ∷ c ∷ d ∷ e ∷ []) h = absurd (omega arith)
+
+-- any six are settled by their row; and feet, leg by leg, are what the record holds, so that `as_legs` and `from_legs` of any type say of
+-- feet what these definitions say
+pub six_by_row : {A : Type 0} (g h : HexapodTypes A) → row (at g) ≡ row (at h) → g ≡ h
+six_by_row g h e = ap (six_of_row g.left_front) e
+
+pub whole_is_at : (f : Feet) → row (whole f) ≡ row (at f)
+whole_is_at f = refl
+
+pub from_row_is : (f : Feet) (ps : List Foot) → row (at f) ≡ ps → f ≡ from_row ps
+from_row_is f ps e = ap from_row e
 
 -- what every leg passes, each passes
 pub each_of_every : (b : Leg → Bool) → T (every b) → (l : Leg) → T (b l)

@@ -10,7 +10,7 @@ use Rattle.legs.specs.Select.{named, selected}
 use Rattle.legs.specs.Masks.{has}
 use Rattle.legs.specs.Merge.{merged}
 use Rattle.legs.specs.declared.Foot.{Foot}
-use Rattle.legs.specs.declared.Feet.{Feet}
+use Rattle.legs.specs.Legs.{Feet}
 use Rattle.legs.proofs.Laws.{whole_of_feet}
 
 -- what is read of the one of two that is chosen

@@ -1,20 +1,17 @@
 -- What is told of an answer on feet can be read back, marks and floats together, so telling loses nothing and no second answer fits a
 -- contract stated by it.
-use Rattle.std.specs.Prelude.{◌≡◌, ℕ, ◌+◌, Bool, eqb, List, [], ◌∷◌, ◌++◌, get_or}
+use Rattle.std.specs.Prelude.{◌≡◌, ℕ, ◌+◌, Bool, eqb, List, [], ◌∷◌, ◌++◌, get_or, drop, Result}
 use mathlib.Core.Path.{refl, sym, ap, ap₂, fun_ext, ◌∙◌}
 use lib.Ieee.{Float, nan}
 use Rattle.numbers.specs.Told.{Told, mark}
-use Rattle.numbers.proofs.OneAnswer.{undone, flag_of_mark}
+use Rattle.numbers.proofs.OneAnswer.{flag_of_mark, told_by_loses_nothing}
 use Rattle.legs.specs.Legs.{Leg, row, points, foot, lifted, marked, coordinates, values}
-use Rattle.legs.specs.Answers.{lifts, told, marks_of, spot, places, given_row, told_selected}
+use Rattle.legs.specs.Answers.{lifts, given_feet, told, marks_of, spot, places, given_row, told_selected}
 use Rattle.legs.specs.declared.Point.{Point}
 use Rattle.legs.specs.declared.Foot.{Foot}
-use Rattle.legs.specs.declared.Feet.{Feet}
-use Rattle.legs.specs.declared.Planned.{Planned}
-use Rattle.legs.specs.declared.Planned.TheVariants.{Feet as Answered, Refused}
+use Rattle.legs.specs.Legs.{Feet}
 use Rattle.legs.specs.declared.RowOfSix.{RowOfSix}
-use Rattle.legs.specs.declared.Selected.{Selected}
-use Rattle.legs.specs.declared.Selected.TheVariants.{Legs, Refused as RefusedToSelect}
+use Rattle.numbers.specs.declared.refusal.Refusal.{Refusal}
 
 -- ---- a point, a foot and six feet, from a place among the marks and one among the floats on
 abbrev pub point_at : List Float → ℕ → Point
@@ -44,54 +41,34 @@ feet_back f = marks_back f
 pub feet_from_told : (f g : Feet) → lifts f ≡ lifts g → values coordinates (row (foot f)) ≡ values coordinates (row (foot g)) → f ≡ g
 feet_from_told f g m v = sym (feet_back f) ∙ ap₂ (λ (ks : List ℕ) (xs : List Float). feet_at ks 0 xs 0) m v ∙ feet_back g
 
--- a refusal has no marks, and six feet have
-planned_of : List ℕ → Told → Planned
-planned_of [] t = Refused t.number
-planned_of (k ∷ ks) t = Answered (feet_at (k ∷ ks) 0 t.values 0)
-
-planned_back : (a : Planned) → planned_of (told a).marks (told a) ≡ a
-unfolding planned_of
-planned_back (Answered f) = ap Answered (feet_back f)
-planned_back (Refused n) = refl
-
-pub told_loses_nothing : (a b : Planned) → told a ≡ told b → a ≡ b
-told_loses_nothing = undone told (λ t. planned_of t.marks t) planned_back
+pub told_loses_nothing : (a b : Result Feet Refusal) → told a ≡ told b → a ≡ b
+told_loses_nothing =
+    told_by_loses_nothing given_feet
+    (λ f g e. feet_from_told f g (ap (λ (t : Told). t.marks) e) (ap (λ (t : Told). t.values) e))
+    (λ f. refl)
 
 -- ---- a row of six is settled by its length and its places
-row_of : List ℕ → List Float → RowOfSix
-row_of ks xs =
-    record {
-      len = get_or ks 0 0;
-      first = foot_at ks 1 xs 0;
-      second = foot_at ks 2 xs 3;
-      third = foot_at ks 3 xs 6;
-      fourth = foot_at ks 4 xs 9;
-      fifth = foot_at ks 5 xs 12;
-      sixth = foot_at ks 6 xs 15;
-    }
-
 foot_back : (p : Foot) → foot_at (mark p.lifted ∷ []) 0 (coordinates p.point) 0 ≡ p
 foot_back p = ap (λ (b : Bool). record { point = p.point; lifted = b }) (flag_of_mark p.lifted)
 
-row_back : (s : RowOfSix) → row_of (s.len ∷ marks_of (places s)) (values spot (places s)) ≡ s
-unfolding row_of
-row_back s = simp (
-  foot_back s.first,
-  foot_back s.second,
-  foot_back s.third,
-  foot_back s.fourth,
-  foot_back s.fifth,
-  foot_back s.sixth,
-)
+-- a list of feet, from their marks and their floats
+feet_of : List ℕ → List Float → List Foot
+feet_of [] xs = []
+feet_of (k ∷ ks) xs = foot_at (k ∷ []) 0 xs 0 ∷ feet_of ks (drop 3 xs)
 
-selected_of : List ℕ → Told → Selected
-selected_of [] t = RefusedToSelect t.number
-selected_of (k ∷ ks) t = Legs (row_of (k ∷ ks) t.values)
+feet_of_back : (ps : List Foot) → feet_of (marks_of ps) (values spot ps) ≡ ps
+unfolding feet_of
+feet_of_back [] = refl
+feet_of_back (p ∷ ps) = simp (foot_back p, feet_of_back ps)
 
-selected_back : (a : Selected) → selected_of (told_selected a).marks (told_selected a) ≡ a
-unfolding selected_of
-selected_back (Legs s) = ap Legs (row_back s)
-selected_back (RefusedToSelect n) = refl
+row_from_told : (s t : RowOfSix) → given_row s ≡ given_row t → s ≡ t
+row_from_told s t e =
+    let marks : s.len ∷ marks_of s.feet ≡ t.len ∷ marks_of t.feet = ap (λ (u : Told). u.marks) e in
+    let floats : values spot s.feet ≡ values spot t.feet = ap (λ (u : Told). u.values) e in
+    let len : s.len ≡ t.len = cc in
+    let kept : marks_of s.feet ≡ marks_of t.feet = cc in
+    let feet : s.feet ≡ t.feet = sym (feet_of_back s.feet) ∙ ap₂ feet_of kept floats ∙ feet_of_back t.feet in
+    ap₂ (λ (n : ℕ) (ps : List Foot). record { len = n; feet = ps }) len feet
 
-pub told_selected_loses_nothing : (a b : Selected) → told_selected a ≡ told_selected b → a ≡ b
-told_selected_loses_nothing = undone told_selected (λ t. selected_of t.marks t) selected_back
+pub told_selected_loses_nothing : (a b : Result RowOfSix Refusal) → told_selected a ≡ told_selected b → a ≡ b
+told_selected_loses_nothing = told_by_loses_nothing given_row row_from_told (λ s. refl)

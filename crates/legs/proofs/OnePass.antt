@@ -10,7 +10,7 @@ use Rattle.legs.specs.Legs.{Leg, left_front, right_front, left_middle, right_mid
 use Rattle.legs.specs.Legs.{every, foot, finite_point, permitted_point, finite_feet, permitted_feet}
 use Rattle.legs.proofs.Laws.{each_of_every}
 use Rattle.legs.specs.declared.Point.{Point}
-use Rattle.legs.specs.declared.Feet.{Feet}
+use Rattle.legs.specs.Legs.{Feet}
 
 pub all_six : (s t : Leg → Bool) → ((l : Leg) → s l ≡ true → t l ≡ true) → every s ≡ true → every t ≡ true
 all_six s t f =

@@ -1,7 +1,8 @@
 -- How ours fills a row of six: from the last leg to the first, each foot before those that are there. Nothing here is
 -- document 01's.
-use Rattle.std.specs.Prelude.{◌+◌, Bool, ◌&&◌, nat_lt}
+use Rattle.std.specs.Prelude.{◌+◌, Bool, ◌&&◌, [], ◌∷◌, nat_lt, slice_index_or}
 use Rattle.numbers.specs.Told.{choose}
+use Rattle.legs.specs.Legs.{nowhere}
 use Rattle.legs.specs.declared.Foot.{Foot}
 use Rattle.legs.specs.declared.RowOfSix.{RowOfSix}
 
@@ -11,11 +12,13 @@ headed_by s flag p =
     choose (flag && nat_lt s.len 6)
     (record {
       len = s.len + 1;
-      first = p;
-      second = s.first;
-      third = s.second;
-      fourth = s.third;
-      fifth = s.fourth;
-      sixth = s.fifth;
+      feet =
+          p
+          ∷ slice_index_or s.feet 0 nowhere
+          ∷ slice_index_or s.feet 1 nowhere
+          ∷ slice_index_or s.feet 2 nowhere
+          ∷ slice_index_or s.feet 3 nowhere
+          ∷ slice_index_or s.feet 4 nowhere
+          ∷ [];
     })
     s

@@ -1,6 +1,6 @@
 -- Document 01, "Feet and masks": "Leg order of a row is left front, right front, left middle, right middle, left rear, right rear."
--- What is said of six legs is said of `Leg` once: `six_points` makes the record of six points and `point` reads it, `row` lists in row
--- order, `every` and `some` ask.
+-- What is said of six legs is said of `Leg` once: `six` makes six of a value for each leg and `at` reads one, `row` lists in row order,
+-- `every` and `some` ask.
 -- Request K12: "The foot record shall hold, besides its point, whether it is lifted." Of six feet `foot` reads a point, `lifted` a mark,
 -- `whole` both; `points` are the six points, `marked` puts marks on them.
 use Rattle.std.specs.Prelude.{Bool, true, false, ◌&&◌, ◌||◌, List, [], ◌∷◌, ◌++◌, from_bits, slice_index_or}
@@ -9,11 +9,9 @@ use Rattle.std.specs.Float.{nan, binary32}
 use Rattle.numbers.specs.Door.{finite, permits}
 use Rattle.numbers.specs.declared.door.Limit.{Limit}
 use Rattle.legs.specs.declared.Point.{Point}
-use Rattle.legs.specs.declared.Points.{Points}
 use Rattle.legs.specs.declared.Foot.{Foot}
-use Rattle.legs.specs.declared.Feet.{Feet}
 use Rattle.legs.specs.declared.LegAngles.{LegAngles}
-use Rattle.legs.specs.declared.Joints.{Joints}
+use Rattle.legs.specs.declared.six.HexapodTypes.{HexapodTypes}
 
 pub data Leg : Type 0 where
   left_front right_front left_middle right_middle left_rear right_rear : Leg
@@ -29,17 +27,17 @@ every t = t left_front && t right_front && t left_middle && t right_middle && t 
 abbrev pub some : (Leg → Bool) → Bool
 some t = t left_front || t right_front || t left_middle || t right_middle || t left_rear || t right_rear
 
--- one leg of the record of points, and the record of six
-abbrev pub point : Points → Leg → Point
-point p left_front = p.left_front
-point p right_front = p.right_front
-point p left_middle = p.left_middle
-point p right_middle = p.right_middle
-point p left_rear = p.left_rear
-point p right_rear = p.right_rear
+-- that of one leg, and six of a value for each
+abbrev pub at : {A : Type 0} → HexapodTypes A → Leg → A
+at h left_front = h.left_front
+at h right_front = h.right_front
+at h left_middle = h.left_middle
+at h right_middle = h.right_middle
+at h left_rear = h.left_rear
+at h right_rear = h.right_rear
 
-abbrev pub six_points : (Leg → Point) → Points
-six_points g =
+abbrev pub six : {A : Type 0} → (Leg → A) → HexapodTypes A
+six g =
     record {
       left_front = g left_front;
       left_middle = g left_middle;
@@ -48,6 +46,34 @@ six_points g =
       right_middle = g right_middle;
       right_rear = g right_rear;
     }
+
+-- the six of a row; what stands for a place past its end is given
+abbrev pub six_of_row : {A : Type 0} → A → List A → HexapodTypes A
+six_of_row none as' =
+    record {
+      left_front = slice_index_or as' 0 none;
+      left_middle = slice_index_or as' 2 none;
+      left_rear = slice_index_or as' 4 none;
+      right_front = slice_index_or as' 1 none;
+      right_middle = slice_index_or as' 3 none;
+      right_rear = slice_index_or as' 5 none;
+    }
+
+-- six points, six feet, eighteen angles
+abbrev pub Points : Type 0
+Points = HexapodTypes Point
+
+abbrev pub Feet : Type 0
+Feet = HexapodTypes Foot
+
+abbrev pub Joints : Type 0
+Joints = HexapodTypes LegAngles
+
+abbrev pub point : Points → Leg → Point
+point p l = at p l
+
+abbrev pub six_points : (Leg → Point) → Points
+six_points g = six g
 
 -- the points of six feet, and one of them
 abbrev pub points : Feet → Points
@@ -78,15 +104,7 @@ abbrev pub whole : Feet → Leg → Foot
 whole f l = record { point = foot f l; lifted = lifted f l }
 
 abbrev pub feet : (Leg → Foot) → Feet
-feet g =
-    record {
-      left_front = g left_front;
-      left_middle = g left_middle;
-      left_rear = g left_rear;
-      right_front = g right_front;
-      right_middle = g right_middle;
-      right_rear = g right_rear;
-    }
+feet g = six g
 
 -- six feet at these points, with these marks
 abbrev pub marked : (Leg → Bool) → Points → Feet
@@ -94,23 +112,10 @@ marked b p = feet (λ l. record { point = point p l; lifted = b l })
 
 -- the same for joint angles
 abbrev pub angles : Joints → Leg → LegAngles
-angles j left_front = j.left_front
-angles j right_front = j.right_front
-angles j left_middle = j.left_middle
-angles j right_middle = j.right_middle
-angles j left_rear = j.left_rear
-angles j right_rear = j.right_rear
+angles j l = at j l
 
 abbrev pub joints : (Leg → LegAngles) → Joints
-joints g =
-    record {
-      left_front = g left_front;
-      left_middle = g left_middle;
-      left_rear = g left_rear;
-      right_front = g right_front;
-      right_middle = g right_middle;
-      right_rear = g right_rear;
-    }
+joints g = six g
 
 abbrev pub origin : Point
 origin = record { x = from_bits binary32 0; y = from_bits binary32 0; z = from_bits binary32 0 }
@@ -125,15 +130,7 @@ unused = record { point = origin; lifted = false }
 
 -- the feet of a row
 abbrev pub from_row : List Foot → Feet
-from_row ps =
-    record {
-      left_front = slice_index_or ps 0 nowhere;
-      left_middle = slice_index_or ps 2 nowhere;
-      left_rear = slice_index_or ps 4 nowhere;
-      right_front = slice_index_or ps 1 nowhere;
-      right_middle = slice_index_or ps 3 nowhere;
-      right_rear = slice_index_or ps 5 nowhere;
-    }
+from_row ps = six_of_row nowhere ps
 
 -- all three coordinates pass
 unfoldable pub finite_point : Point → Bool

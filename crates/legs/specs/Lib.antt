@@ -1,4 +1,5 @@
 pub mod Legs
+pub mod LegNumbers
 pub mod Vectors
 pub mod Masks
 pub mod Flags

@@ -6,7 +6,7 @@ use Rattle.numbers.specs.Limits.{mask_to, foot_limit}
 use Rattle.legs.specs.Legs.{whole, feet, finite_feet, permitted_feet}
 use Rattle.legs.specs.Masks.{has}
 use Rattle.legs.specs.Answers.{given_feet}
-use Rattle.legs.specs.declared.Feet.{Feet}
+use Rattle.legs.specs.Legs.{Feet}
 
 unfoldable pub merged : Feet → Feet → ℕ → Feet
 merged a b m = feet (λ l. choose (has m l) (whole b l) (whole a l))

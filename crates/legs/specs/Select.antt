@@ -8,7 +8,7 @@ use Rattle.legs.specs.Legs.{Leg, row, whole, unused, finite_feet, permitted_feet
 use Rattle.legs.specs.Masks.{has}
 use Rattle.legs.specs.Answers.{given_row}
 use Rattle.legs.specs.declared.Foot.{Foot}
-use Rattle.legs.specs.declared.Feet.{Feet}
+use Rattle.legs.specs.Legs.{Feet}
 use Rattle.legs.specs.declared.RowOfSix.{RowOfSix}
 
 -- the feet of the legs that the mask names, out of a list of legs
@@ -24,12 +24,14 @@ abbrev pub in_six_places : List Foot → RowOfSix
 in_six_places ps =
     record {
       len = length ps;
-      first = slice_index_or ps 0 unused;
-      second = slice_index_or ps 1 unused;
-      third = slice_index_or ps 2 unused;
-      fourth = slice_index_or ps 3 unused;
-      fifth = slice_index_or ps 4 unused;
-      sixth = slice_index_or ps 5 unused;
+      feet =
+          slice_index_or ps 0 unused
+          ∷ slice_index_or ps 1 unused
+          ∷ slice_index_or ps 2 unused
+          ∷ slice_index_or ps 3 unused
+          ∷ slice_index_or ps 4 unused
+          ∷ slice_index_or ps 5 unused
+          ∷ [];
     }
 
 unfoldable pub selected : Feet → ℕ → RowOfSix

@@ -5,7 +5,7 @@ use Rattle.numbers.specs.Told.{choose}
 use Rattle.legs.specs.Legs.{Leg, left_front, right_front, left_middle, right_middle, left_rear, right_rear, whole, feet, nowhere}
 use Rattle.legs.specs.Masks.{bit, has}
 use Rattle.legs.specs.declared.Foot.{Foot}
-use Rattle.legs.specs.declared.Feet.{Feet}
+use Rattle.legs.specs.Legs.{Feet}
 
 -- how many legs the mask names before this one, in row order
 abbrev pub place : ℕ → Leg → ℕ

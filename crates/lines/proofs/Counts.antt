@@ -1,6 +1,6 @@
 -- A count is accepted exactly where it is the written form of its number, in as many digits as are allowed.
-use mathlib.Core.Path.{◌≡◌, refl, ap, ◌∙◌, sym, subst}
-use mathlib.Core.Bool.{Bool, true, false, ◌&&◌, ◌||◌, not, false≢true, or-true}
+use mathlib.Core.Path.{◌≡◌, ap, ◌∙◌, sym}
+use mathlib.Core.Bool.{true, false, ◌&&◌, false≢true, or-true}
 use mathlib.Core.List.{List, [], ◌∷◌, ◌++◌}
 use mathlib.Core.Logic.{⊎_elim}
 use Prim.Native.Nat.{ℕ, zero, suc, ◌+◌, ◌*◌, ◌/◌, ◌%◌, ◌≤◌, ◌<◌}
@@ -8,10 +8,9 @@ use native.Mathlib.Nat.{zero-add, mod-eq_of_lt, not-suc-le-zero, div-add-mod'}
 use native.Mathlib.Omega.{arith}
 use lib.Dec.{eqb, leb, ltb, lit<, lit≤}
 use lib.ListN.{length, get_or, length-append, get_or-append}
-use borrow.Author.Tests.{ltb-true, leb-true, le-leb, lt-ltb, eqb-true, ne_eqb, not-true, eqb-false}
-use Rattle.lines.specs.declared.digits.Digits.{Digits}
-use Rattle.numbers.specs.Told.{choose}
-use Rattle.lines.specs.Digits.{digit, value_of, decimal, push, push_all, nothing_yet, read_in, count_of, leads, no_digits}
+use borrow.Author.Tests.{ltb-true, leb-true, le-leb, lt-ltb, ne_eqb, not-true, eqb-false}
+use Rattle.lines.specs.Digits.{Digits}
+use Rattle.lines.specs.Digits.{digit, value_of, decimal, push, push_all, read_in, count_of, leads, no_digits}
 use Rattle.numbers.proofs.OnePass.{and_left, and_right}
 use Rattle.numbers.proofs.Flags.{lt_or_le, chosen}
 use Rattle.lines.proofs.Values.{digit_of_value, by_bytes}

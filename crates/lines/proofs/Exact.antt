@@ -1,22 +1,20 @@
 -- Digits are accepted exactly where they are the written form of their number: hex of a fixed length, and counts.
-use mathlib.Core.Path.{◌≡◌, refl, ap, ◌∙◌, sym, subst}
-use mathlib.Core.Bool.{Bool, true, false, ◌&&◌, ◌||◌, not, false≢true}
+use mathlib.Core.Path.{◌≡◌, refl, ap, ◌∙◌, subst}
+use mathlib.Core.Bool.{Bool, true, ◌&&◌, false≢true}
 use mathlib.Core.List.{List, [], ◌∷◌, ◌++◌}
-use mathlib.Core.Logic.{⊎_elim}
 use Prim.Native.Nat.{ℕ, zero, suc, ◌+◌, ◌*◌, ◌/◌, ◌%◌, ◌≤◌, ◌<◌, ◌^◌}
 use native.Mathlib.Nat.{pow-zero, pow-suc, mod-lt, mod-eq_of_lt, div-lt_iff_lt-mul, div-add-mod'}
 use native.Mathlib.Nat.{mul-add-div_right, mul-add-mod_self_right, div-eq_of_lt, add-zero, mul-le-mul_right, suc-mul}
 use native.Mathlib.Numerals.{add-one}
 use native.Mathlib.Omega.{arith}
-use lib.Dec.{eqb, leb, ltb, lit<, lit≤}
-use lib.ListN.{length, get_or, length-append}
+use lib.Dec.{leb, ltb, lit<, lit≤}
+use lib.ListN.{length, length-append}
 use borrow.Author.Tests.{lt-ltb, ltb-true, leb-true}
-use Rattle.lines.specs.declared.digits.Digits.{Digits}
-use Rattle.numbers.specs.Told.{choose}
-use Rattle.lines.specs.Digits.{digit, value_of, numeral, hex, decimal, push, push_all}
-use Rattle.lines.specs.Digits.{nothing_yet, read_in, hex_of, count_of, leads, no_digits}
+use Rattle.lines.specs.Digits.{Digits}
+use Rattle.lines.specs.Digits.{digit, value_of, numeral, hex, push, push_all}
+use Rattle.lines.specs.Digits.{nothing_yet, read_in, hex_of, no_digits}
 use Rattle.numbers.proofs.OnePass.{and_left, and_right}
-use Rattle.numbers.proofs.Flags.{lt_or_le, chosen}
+use Rattle.numbers.proofs.Flags.{chosen}
 use Rattle.lines.proofs.Values.{value_of_digit, digit_of_value, by_bytes}
 use Rattle.lines.proofs.Numerals.{length_numeral}
 

@@ -1,32 +1,29 @@
 -- A line of a listing is found exactly where the bytes are its written form without the newline: what is written and read back is the same.
 use mathlib.Core.Path.{◌≡◌, refl, ap, ◌∙◌, sym, subst}
-use mathlib.Core.Bool.{Bool, true, false, ◌&&◌, false≢true}
+use mathlib.Core.Bool.{Bool, true, ◌&&◌, false≢true}
 use mathlib.Core.List.{List, [], ◌∷◌, ◌++◌}
-use Prim.Native.Nat.{ℕ, zero, suc, ◌+◌, ◌*◌, ◌-◌, ◌≤◌, ◌<◌}
-use native.Mathlib.Nat.{zero-add}
+use Prim.Native.Nat.{ℕ, suc, ◌+◌, ◌-◌, ◌≤◌}
 use native.Mathlib.Omega.{arith}
 use lib.Dec.{eqb, ltb}
-use lib.ListN.{length, get_or, take, drop, length-append, length-drop, length-take, take-append-drop}
+use lib.ListN.{length, get_or, take, drop, length-append, length-drop, take-append-drop}
 use lib.Seq.{take_at, drop_at, drop-cons, drop-drop}
-use borrow.Author.Tests.{eq-eqb, eqb-true, lt-ltb, le-ltb, ltb-false}
-use Rattle.lines.specs.declared.digits.Digits.{Digits}
-use Rattle.lines.specs.declared.fields.Field.{Field}
+use borrow.Author.Tests.{eqb-true, le-ltb, ltb-false}
+use Rattle.lines.specs.Parts.{Field}
 use Rattle.lines.specs.declared.listed.Moved.{Moved}
 use Rattle.lines.specs.declared.listed.Line.{Line}
 use Rattle.lines.specs.declared.listed.Line.TheVariants.{Header, Move, Arrived, Refused}
-use Rattle.lines.specs.declared.listed.Found.{Found}
-use Rattle.lines.specs.declared.listed.Found.TheVariants.{Known, NoLine}
+use Rattle.std.specs.Prelude.{Option}
+use Rattle.std.specs.Prelude.{Some, None}
 use Rattle.numbers.specs.Told.{choose}
-use Rattle.lines.specs.Digits.{hex, decimal, count_of}
+use Rattle.lines.specs.Digits.{decimal, count_of}
 use Rattle.lines.specs.Fields.{parted, AreBits}
 use Rattle.lines.specs.Parts.{tabbeds, all_good, bits_of, no_field, short_of}
-use Rattle.lines.specs.Lines.{walk_word, lettered, body, Digited, Listable}
+use Rattle.lines.specs.Lines.{walk_word, body, Digited, Listable}
 use Rattle.lines.specs.Reading.{spells, named, header_of, step_count, step_fields, moved, move_of, found, line_of}
 use Rattle.numbers.proofs.OnePass.{and_left, and_right}
 use Rattle.numbers.proofs.Flags.{chosen}
-use Rattle.lines.proofs.Decimal.{length_positive}
 use Rattle.lines.proofs.Counts.{count_back, count_exact}
-use Rattle.lines.proofs.Rows.{each, length_each, parted_each, rows_back, rows_exact, length_bits}
+use Rattle.lines.proofs.Rows.{each, length_each, parted_each, rows_back, rows_exact}
 
 -- a letter and a number
 short_back : (limit b n : ℕ) → Digited limit n → short_of limit (b ∷ 9 ∷ decimal n) ≡ record { good = true; bits = n }
@@ -53,7 +50,7 @@ module _ (n : ℕ) (ps : List ℕ) (three : length ps ≡ 3) where
       let e : length text - 27 ≡ suc (suc (length (decimal n))) = omega (arith, long) in
       rw e (drop_at (decimal n) (each ps) (length (decimal n)) refl)
 
-  move_back : (limit : ℕ) → Digited limit n → AreBits ps → move_of limit text ≡ Known (Move (moved n ps))
+  move_back : (limit : ℕ) → Digited limit n → AreBits ps → move_of limit text ≡ Some (Move (moved n ps))
   unfolding move_of
   move_back limit d bits =
       let was = subst (λ (k : ℕ). (all_good true (tabbeds k (each ps)) ≡ true) × (bits_of (tabbeds k (each ps)) ≡ ps)) three
@@ -66,7 +63,7 @@ body_of_move m =
     ap (λ (t : List ℕ). 77 ∷ 9 ∷ t) (parted_each (decimal m.count) (m.x ∷ m.y ∷ m.z ∷ []))
 
 -- what is written is found
-pub line_back : (limit : ℕ) (line : Line) → Listable limit line → line_of limit (body line) ≡ Known line
+pub line_back : (limit : ℕ) (line : Line) → Listable limit line → line_of limit (body line) ≡ Some line
 unfolding line_of body parted Listable
 line_back limit (Header v) d = rw (header_back v d)
 line_back limit (Move m) d =
@@ -134,11 +131,11 @@ header_exact s =
     let front = spelt name true 0 s (ltb-false (length s) 12 long) (and_left (spells true 0 name s) d.good good) in
     (sym (take-append-drop 12 s) ∙ ap (λ (t : List ℕ). t ++ drop 12 s) front.1 ∙ ap (λ (t : List ℕ). name ++ t) was.0, was.1))
 
-clash : {A : Type 0} (line : Line) → NoLine ≡ Known line → A
+clash : {A : Type 0} (line : Line) → None ≡ Some line → A
 clash line e = let z : ◌≡◌ {A = ℕ} 0 1 = cc in absurd (omega arith)
 
-abbrev Kept : ℕ → List ℕ → Line → Found → Type 0
-Kept limit s line f = f ≡ Known line → ReadFrom limit s line
+abbrev Kept : ℕ → List ℕ → Line → Option Line → Type 0
+Kept limit s line f = f ≡ Some line → ReadFrom limit s line
 
 -- the parts of a step's line, put together again
 parts : (s : List ℕ) (v : ℕ) (ps : List ℕ) → 29 ≤ length s → get_or s 0 0 ≡ 77 → get_or s 1 0 ≡ 9
@@ -153,7 +150,7 @@ parts s v ps long first second count fields =
     (sym (take-append-drop j (drop 2 s)) ∙ ap (λ (t : List ℕ). t ++ drop j (drop 2 s)) count
     ∙ ap (λ (t : List ℕ). decimal v ++ t) rest))
 
-move_exact : (limit : ℕ) (s : List ℕ) (line : Line) → move_of limit s ≡ Known line → ReadFrom limit s line
+move_exact : (limit : ℕ) (s : List ℕ) (line : Line) → move_of limit s ≡ Some line → ReadFrom limit s line
 unfolding move_of tabbeds bits_of Listable
 move_exact limit s line =
     let d = step_count limit s in
@@ -161,11 +158,11 @@ move_exact limit s line =
     let a = eqb (get_or s 0 0) 77 in
     let b = eqb (get_or s 1 0) 9 in
     let m = moved d.value (bits_of fs) in
-    chosen (Kept limit s line) (ltb (length s) 29) NoLine (choose (all_good (a && b && d.good) fs) (Known (Move m)) NoLine)
+    chosen (Kept limit s line) (ltb (length s) 29) None (choose (all_good (a && b && d.good) fs) (Some (Move m)) None)
     (λ short e. clash line e)
     (λ enough.
     let long = ltb-false (length s) 29 enough in
-    chosen (Kept limit s line) (all_good (a && b && d.good) fs) (Known (Move m)) NoLine
+    chosen (Kept limit s line) (all_good (a && b && d.good) fs) (Some (Move m)) None
     (λ good e.
     let was = rows_exact 3 (a && b && d.good) (drop (length s - 27) s) (omega (arith, length-drop (length s - 27) s)) good in
     let ab = and_left (a && b) d.good was.0 in
@@ -182,13 +179,13 @@ move_exact limit s line =
     (λ bad e. clash line e))
 
 found_exact : (limit : ℕ) (kind : ℕ → Line) (s : List ℕ) (f : Field) (line : Line) → (f.good ≡ true → ReadFrom limit s (kind f.bits))
-    → found kind f ≡ Known line → ReadFrom limit s line
+    → found kind f ≡ Some line → ReadFrom limit s line
 found_exact limit kind s f line read =
-    chosen (Kept limit s line) f.good (Known (kind f.bits)) NoLine
+    chosen (Kept limit s line) f.good (Some (kind f.bits)) None
     (λ good e. let is : kind f.bits ≡ line = cc in subst (ReadFrom limit s) is (read good))
     (λ bad e. clash line e)
 
-pub line_exact : (limit : ℕ) (s : List ℕ) (line : Line) → line_of limit s ≡ Known line → ReadFrom limit s line
+pub line_exact : (limit : ℕ) (s : List ℕ) (line : Line) → line_of limit s ≡ Some line → ReadFrom limit s line
 unfolding line_of body parted Listable
 line_exact limit s line =
     let b = get_or s 0 0 in

@@ -1,10 +1,9 @@
 -- A number in k digits of a base: as many bytes as digits.
 use mathlib.Core.Path.{◌≡◌, refl, ap, ◌∙◌}
-use mathlib.Core.List.{List, [], ◌∷◌, ◌++◌}
-use Prim.Native.Nat.{ℕ, zero, suc, ◌+◌, ◌/◌, ◌%◌}
+use Prim.Native.Nat.{ℕ, zero, suc, ◌/◌}
 use native.Mathlib.Numerals.{add-one}
 use lib.ListN.{length, length-append}
-use Rattle.lines.specs.Digits.{digit, numeral, hex}
+use Rattle.lines.specs.Digits.{numeral, hex}
 
 pub length_numeral : (base k n : ℕ) → length (numeral base k n) ≡ k
 unfolding numeral

@@ -9,16 +9,21 @@ use lib.Dec.{eqb}
 use lib.ListN.{length, get_or, take, drop, length-drop}
 use lib.Seq.{get_or-drop, drop-drop, length-take-le}
 use borrow.Author.Tests.{eq-eqb, ne_eqb, le-ltb}
-use Rattle.lines.specs.declared.digits.Digits.{Digits}
-use Rattle.lines.specs.declared.fields.Field.{Field}
+use Rattle.lines.specs.Digits.{Digits}
+use Rattle.lines.specs.Parts.{Field}
 use Rattle.lines.specs.declared.listed.Line.TheVariants.{Move}
-use Rattle.lines.specs.declared.listed.Found.TheVariants.{Known, NoLine}
-use Rattle.lines.specs.declared.record.Asked.{Asked}
-use Rattle.lines.specs.declared.record.Asked.TheVariants.{Record, NoRecord}
+use Rattle.std.specs.Prelude.{Some, None}
+use Rattle.std.specs.Prelude.{Option}
+use Rattle.std.specs.Prelude.{Some, None}
 use Rattle.numbers.proofs.OnePass.{and_left, and_right}
 use Rattle.lines.specs.Digits.{read_in, hex_of}
-use Rattle.lines.specs.Parts.{tabbed, tabbeds, all_good, bits_of}
-use Rattle.lines.specs.Reading.{step_count, moved, move_of}
+use borrow.Rule.Slice.PartMut.{put_mid}
+use Rattle.std.proofs.lemmas.Slice.{put_mid-paste}
+use lib.Seq.{sets, sets-eq, take_all}
+use Rattle.std.specs.Prelude.{option_map}
+use Rattle.lines.specs.declared.listed.Line.{Line}
+use Rattle.lines.specs.Parts.{field_number, tabbed, tabbeds, all_good, bits_of}
+use Rattle.lines.specs.Reading.{step_count, moved, move_of, found}
 use Rattle.lines.specs.Record.{record_of, walk_of}
 use Rattle.lines.proofs.Reading.{hex_fits}
 
@@ -110,15 +115,15 @@ module _ (s : List ℕ) where
     abbrev parts : List Field
     parts = tabbeds 7 (drop 1 s)
 
-    pub another_letter : (get_or s 0 0 ≡ 87 → ⊥) → NoRecord ≡ record_of s
+    pub another_letter : (get_or s 0 0 ≡ 87 → ⊥) → None ≡ record_of s
     unfolding record_of
     another_letter other = rw (eq-eqb (length s) 64 long, ne_eqb (get_or s 0 0) 87 other, none_good parts)
 
-    pub record_yes : get_or s 0 0 ≡ 87 → all_good true parts ≡ true → Record (walk_of (bits_of parts)) ≡ record_of s
+    pub record_yes : get_or s 0 0 ≡ 87 → all_good true parts ≡ true → Some (walk_of (bits_of parts)) ≡ record_of s
     unfolding record_of
     record_yes letter good = rw (eq-eqb (length s) 64 long, eq-eqb (get_or s 0 0) 87 letter, good)
 
-    pub record_no : get_or s 0 0 ≡ 87 → all_good true parts ≡ false → NoRecord ≡ record_of s
+    pub record_no : get_or s 0 0 ≡ 87 → all_good true parts ≡ false → None ≡ record_of s
     unfolding record_of
     record_no letter bad = rw (eq-eqb (length s) 64 long, eq-eqb (get_or s 0 0) 87 letter, bad)
 
@@ -142,11 +147,30 @@ module _ (s : List ℕ) where
     pub fields_good : (begun && t) ≡ true → all_good true last ≡ true
     fields_good good = sym f ∙ and_right begun t good
 
-    pub move_yes : (begun && t) ≡ true → Known (Move (moved d.value (bits_of last))) ≡ move_of limit s
+    pub move_yes : (begun && t) ≡ true → Some (Move (moved d.value (bits_of last))) ≡ move_of limit s
     unfolding move_of
     move_yes good =
-        ap (λ (x : Digits). Known (Move (moved x.value (bits_of last)))) e ∙ rw (le-ltb (length s) 29 long, tests true good)
+        ap (λ (x : Digits). Some (Move (moved x.value (bits_of last)))) e ∙ rw (le-ltb (length s) 29 long, tests true good)
 
-    pub move_no : (begun && t) ≡ false → NoLine ≡ move_of limit s
+    pub move_no : (begun && t) ≡ false → None ≡ move_of limit s
     unfolding move_of
     move_no bad = rw (le-ltb (length s) 29 long, tests false bad)
+
+-- ---- a line of one number is found where its field is good
+found_by : (kind : ℕ → Line) (t : Bool) (v : ℕ) (o : Option ℕ) → field_number (record { good = t; bits = v }) ≡ o
+    → option_map kind o ≡ found kind (record { good = t; bits = v })
+found_by kind true v o e = ap (option_map kind) (sym e)
+found_by kind false v o e = ap (option_map kind) (sym e)
+
+pub found_is : (kind : ℕ → Line) (f : Field) (o : Option ℕ) → field_number f ≡ o → option_map kind o ≡ found kind f
+found_is kind f o e = found_by kind f.good f.bits o e
+
+-- ---- what is copied over a part of a buffer is stored there
+pub stored_copied : (l a : List ℕ) (at n : ℕ) → n ≡ at + n - at → length a ≡ n → at + n ≤ length l
+    → put_mid at (at + n - at) l a ≡ sets l at a
+stored_copied l a at n k full room =
+    put_mid-paste at (at + n - at) l a a n refl k (sym full)
+    ∙ rw take_whole (sym (sets-eq a l at (rw full room) ∙ rw full refl))
+  where
+    take_whole : take n a ≡ a
+    take_whole = take_all n a (omega (arith, full))

@@ -1,23 +1,25 @@
 -- Digits are read one byte after the other: what is left from i on by its first byte and what is left from i + 1 on, and how large the
 -- number gets.
-use mathlib.Core.Path.{◌≡◌, refl, ap, ◌∙◌, sym, subst}
-use mathlib.Core.Bool.{Bool, true, false, not, ◌&&◌, false≢true}
+use mathlib.Core.Path.{◌≡◌, refl, ap, ap₂, ◌∙◌, sym, subst}
+use mathlib.Core.Bool.{Bool, true, false, not, ◌&&◌, false≢true, and-true, and-false, and_assoc}
 use mathlib.Core.List.{List, [], ◌∷◌}
 use Prim.Native.Nat.{ℕ, suc, ◌+◌, ◌*◌, ◌%◌, ◌≤◌, ◌<◌, ◌^◌}
 use native.Mathlib.Nat.{pow-zero, pow-suc, pow-succ', mul-one, mul_assoc}
-use native.Mathlib.Nat.{add-zero, mul-le-mul_left, mod-lt, pow-le-pow_right, lt_of_lt_of_le}
+use native.Mathlib.Nat.{add-zero, mul-le-mul_left, mod-lt, mod-eq_of_lt, pow-le-pow_right, lt_of_lt_of_le}
 use native.Mathlib.Numerals.{add-one}
 use native.Mathlib.Omega.{arith}
 use lib.Dec.{eqb, leb, ltb, lit<, lit≤}
-use borrow.Author.Tests.{leb-true, ltb-true, eq-eqb, ne_eqb}
+use borrow.Author.Tests.{leb-true, ltb-true, lt-ltb, le-ltb, eq-eqb, ne_eqb, eqb-true}
+use Rattle.std.specs.Prelude.{Some, None}
+use Rattle.std.specs.List.{starts_with, list_all}
 use lib.ListN.{length, get_or, drop, drop_of_length-le}
 use lib.Seq.{drop-cons}
-use Rattle.lines.specs.declared.digits.Digits.{Digits}
-use Rattle.lines.specs.Digits.{value_of, push, push_all, nothing_yet, read_in, no_digits, leads, hex_of, count_of}
+use Rattle.lines.specs.Digits.{Digits, number, value_of, push, push_all, nothing_yet, read_in, no_digits, leads, hex_of, count_of}
 use Rattle.lines.specs.Fields.{span}
+use Rattle.lines.specs.Parts.{Field, field_number}
 use Rattle.lines.specs.Reading.{spells}
 use Rattle.numbers.proofs.OnePass.{and_left, and_right}
-use Rattle.numbers.proofs.Flags.{chosen}
+use Rattle.numbers.proofs.Flags.{chosen, both_ways}
 
 module _ (s : List ℕ) (i : ℕ) (h : i < length s) where
   from_on : drop i s ≡ get_or s i 0 ∷ drop (i + 1) s
@@ -35,14 +37,21 @@ module _ (s : List ℕ) (i : ℕ) (h : i < length s) where
   unfolding span
   span_step sep n = ap (span sep) from_on ∙ simp (ne_eqb _ sep n, add-one)
 
-  -- one byte of a word
-  pub spells_step : (t : Bool) (text : List ℕ) → spells t i (drop i s) text ≡ spells (t && eqb (get_or text i 0) (get_or s i 0)) (i + 1)
-      (drop (i + 1) s) text
-  spells_step t text = ap (λ (ws : List ℕ). spells t i ws text) from_on ∙ rw (add-one i)
-
 pub span_end : (s : List ℕ) (i : ℕ) → length s ≤ i → (sep : ℕ) → span sep (drop i s) ≡ 0
 unfolding span
 span_end s i h sep = ap (span sep) (drop_of_length-le s h)
+
+-- ---- a word that is spelt at a place is what the text from there on starts with
+turned : (a b : ℕ) → eqb a b ≡ eqb b a
+turned a b = both_ways (eqb a b) (eqb b a) (λ e. eq-eqb b a (sym (eqb-true a b e))) (λ e. eq-eqb a b (sym (eqb-true b a e)))
+
+pub spells_starts : (ws : List ℕ) (t : Bool) (i : ℕ) (s : List ℕ) → i + length ws ≤ length s
+    → spells t i ws s ≡ (t && starts_with eqb (drop i s) ws)
+spells_starts [] t i s h = sym (and-true t)
+spells_starts (w ∷ ws) t i s h =
+    spells_starts ws (t && eqb (get_or s i 0) w) (suc i) s (omega arith)
+    ∙ and_assoc t (eqb (get_or s i 0) w) (starts_with eqb (drop (suc i) s) ws)
+    ∙ rw (drop-cons s i 0 (omega arith), turned w (get_or s i 0))
 
 -- ---- eight bytes passed at once
 abbrev pub apart : List ℕ → ℕ → ℕ → Bool
@@ -110,35 +119,77 @@ pub read_end : (s : List ℕ) (i : ℕ) → length s ≤ i → (base : ℕ) (a :
 unfolding push_all
 read_end s i h base a = ap (push_all base a) (drop_of_length-le s h)
 
+-- digits that have no number are not good, and those that have one are
+pub no_count : (d : Digits) → number d ≡ None → d.good ≡ false
+no_count d = by_flag d.good d.value
+  where
+    by_flag : (t : Bool) (v : ℕ) → number (record { good = t; value = v }) ≡ None → t ≡ false
+    by_flag true v e = let z : ◌≡◌ {A = Bool} true false = cc in absurd (false≢true (sym z))
+    by_flag false v e = refl
+
+pub a_count : (d : Digits) (n : ℕ) → number d ≡ Some n → (d.good ≡ true) × (d.value ≡ n)
+a_count d n = by_flag d.good d.value
+  where
+    by_flag : (t : Bool) (v : ℕ) → number (record { good = t; value = v }) ≡ Some n → (t ≡ true) × (v ≡ n)
+    by_flag true v e = (refl, (cc))
+    by_flag false v e = let z : ◌≡◌ {A = Bool} true false = cc in absurd (false≢true (sym z))
+
 -- where all bytes are hex digits, so is the next, and the number is read without a test
 abbrev pub known : ℕ → Digits
 known v = record { good = true; value = v }
 
-started_good : (base : ℕ) (a : Digits) (s : List ℕ) → (push_all base a s).good ≡ true → a.good ≡ true
+-- digits are good where all of them are
+pub good_all : (base : ℕ) (s : List ℕ) (a : Digits) → (push_all base a s).good ≡ (a.good && list_all (λ b. ltb (value_of b) base) s)
 unfolding push_all push
-started_good base a [] h = h
-started_good base a (b ∷ s) h = and_left a.good (ltb (value_of b) base) (started_good base (push base a b) s h)
+good_all base [] a = sym (and-true a.good)
+good_all base (b ∷ s) a =
+    good_all base s (push base a b) ∙ and_assoc a.good (ltb (value_of b) base) (list_all (λ x. ltb (value_of x) base) s)
 
-known_next : (s : List ℕ) (i v : ℕ) → i < length s → (read_in 16 s).good ≡ true → push_all 16 (known v) (drop i s) ≡ read_in 16 s
-    → (value_of (get_or s i 0) < 16) × (push_all 16 (known (v * 16 + value_of (get_or s i 0) % 16)) (drop (i + 1) s) ≡ read_in 16 s)
-unfolding push
-known_next s i v h good so_far =
-    let b = get_or s i 0 in
-    let next : push_all 16 (push 16 (known v) b) (drop (i + 1) s) ≡ read_in 16 s = sym (read_step s i h 16 (known v)) ∙ so_far in
-    let digit : ltb (value_of b) 16 ≡ true =
-    started_good 16 (push 16 (known v) b) (drop (i + 1) s) (ap (λ (d : Digits). d.good) next ∙ good) in (
-      ltb-true (value_of b) 16 digit,
-      ap (λ (t : Bool). push_all 16 (record { good = t; value = v * 16 + value_of b % 16 }) (drop (i + 1) s)) (sym digit) ∙ next,
-    )
+pub all_good_in : (base : ℕ) (s : List ℕ) → list_all (λ b. ltb (value_of b) base) s ≡ (read_in base s).good
+all_good_in base s = sym (good_all base s nothing_yet)
 
-pub known_two : (s : List ℕ) (i v : ℕ) → i + 1 < length s → (read_in 16 s).good ≡ true → push_all 16 (known v) (drop i s) ≡ read_in 16 s
-    → (value_of (get_or s i 0) < 16) × (value_of (get_or s (i + 1) 0) < 16)
-    × (push_all 16 (known ((v * 16 + value_of (get_or s i 0) % 16) * 16 + value_of (get_or s (i + 1) 0) % 16)) (drop (i + 1 + 1) s)
-    ≡ read_in 16 s)
-known_two s i v h good so_far =
-    let one = known_next s i v (omega arith) good so_far in
-    let two = known_next s (i + 1) (v * 16 + value_of (get_or s i 0) % 16) h good one.1 in
-    (one.0, two.0, two.1)
+-- the bytes from i on are read after the number v of those before
+module _ (base : ℕ) (s : List ℕ) (i v : ℕ) (h : i < length s) (so_far : push_all base (known v) (drop i s) ≡ read_in base s) where
+  abbrev here : ℕ
+  here = get_or s i 0
+
+  next_is : push_all base (push base (known v) here) (drop (i + 1) s) ≡ read_in base s
+  next_is = sym (read_step s i h base (known v)) ∙ so_far
+
+  good_is : (read_in base s).good ≡ (ltb (value_of here) base && list_all (λ b. ltb (value_of b) base) (drop (i + 1) s))
+  unfolding push
+  good_is = ap (λ (d : Digits). d.good) (sym next_is) ∙ good_all base (drop (i + 1) s) (push base (known v) here)
+
+  -- where they are all digits, so is the next
+  pub next_digit : (read_in base s).good ≡ true → value_of here < base
+  next_digit good =
+      ltb-true (value_of here) base
+      (and_left (ltb (value_of here) base) (list_all (λ b. ltb (value_of b) base) (drop (i + 1) s)) (sym good_is ∙ good))
+
+  -- where the next is none, there is no number
+  pub no_number : base ≤ value_of here → None ≡ number (read_in base s)
+  no_number high =
+      let bad : (read_in base s).good ≡ false = good_is ∙ rw (le-ltb (value_of here) base high) in
+      rw bad
+
+  -- where it is one, it is pushed
+  pub next_number : base ≤ 16 → value_of here < base → push_all base (known (v * base + value_of here)) (drop (i + 1) s) ≡ read_in base s
+  unfolding push
+  next_number few low =
+      let m : value_of here % 16 ≡ value_of here = mod-eq_of_lt {n = value_of here} {m = 16} (omega arith) in
+      ap (λ (d : Digits). push_all base d (drop (i + 1) s))
+      (ap₂ (λ (t : Bool) (w : ℕ). record { good = t; value = v * base + w }) (sym (lt-ltb (value_of here) base low)) (sym m))
+      ∙ next_is
+
+  pub number_below : base ≤ 16 → v < 16 ^ i → value_of here < base → v * base + value_of here < 16 ^ (i + 1)
+  number_below few below low =
+      let m : v * base ≤ v * 16 = mul-le-mul_left v few in
+      rw (add-one, pow-suc) (omega arith)
+
+-- with all bytes read, the number is known
+pub number_known : (base : ℕ) (s : List ℕ) (i v : ℕ) → length s ≤ i → push_all base (known v) (drop i s) ≡ read_in base s
+    → Some v ≡ number (read_in base s)
+number_known base s i v end so_far = ap number (sym (read_end s i end base (known v)) ∙ so_far)
 
 -- k digits of a base of at most sixteen stay below 16 ^ k
 pub push_below : (base : ℕ) (a : Digits) (b k : ℕ) → base ≤ 16 → a.value < 16 ^ k → (push base a b).value < 16 ^ (k + 1)
@@ -153,17 +204,6 @@ pub room : (v k : ℕ) → v < 16 ^ k → k < 16 → v < 2 ^ 60
 room v k below few =
     let m : 16 ^ k ≤ 16 ^ 15 = pow-le-pow_right (lit< tt) {i = k} {j = 15} (omega arith) in
     omega arith
-
--- a number with room for two more
-pub room_for_two : (v k : ℕ) → v < 16 ^ k → k ≤ 14 → v < 2 ^ 56
-room_for_two v k below few =
-    let m : 16 ^ k ≤ 16 ^ 14 = pow-le-pow_right (lit< tt) {i = k} {j = 14} few in
-    omega arith
-
-pub two_below : (v a b k : ℕ) → v < 16 ^ k → (v * 16 + value_of a % 16) * 16 + value_of b % 16 < 16 ^ (k + 1 + 1)
-unfolding push
-two_below v a b k below =
-    push_below 16 (known (v * 16 + value_of a % 16)) b (k + 1) (lit≤ tt) (push_below 16 (known v) a k (lit≤ tt) below)
 
 pub read_below : (base : ℕ) (s : List ℕ) (a : Digits) (k : ℕ) → base ≤ 16 → a.value < 16 ^ k
     → (push_all base a s).value < 16 ^ (k + length s)
@@ -212,3 +252,20 @@ count_fits limit s =
     let most : 10 ^ n ≤ 10 ^ 9 = pow-le-pow_right (lit< tt) {i = n} {j = 9} few in
     omega (arith, read_ten_below s nothing_yet 1 (lit≤ tt)))
     (λ e. lit< tt)
+
+pub count_small : (limit : ℕ) (s : List ℕ) (n : ℕ) → number (count_of limit s) ≡ Some n → n < 2 ^ 32
+count_small limit s n e = subst (λ (v : ℕ). v < 2 ^ 32) (a_count (count_of limit s) n e).1 (count_fits limit s)
+
+-- a field whose count is behind a test
+module _ (limit : ℕ) (s : List ℕ) (t : Bool) where
+  abbrev pub tested : Field
+  tested = record { good = t && (count_of limit s).good; bits = (count_of limit s).value }
+
+  pub no_count_there : number (count_of limit s) ≡ None → None ≡ field_number tested
+  no_count_there e = rw (no_count (count_of limit s) e, and-false)
+
+  pub count_untested : t ≡ false → None ≡ field_number tested
+  count_untested e = rw e
+
+  pub count_there : (n : ℕ) → number (count_of limit s) ≡ Some n → t ≡ true → Some n ≡ field_number tested
+  count_there n e is = let d = a_count (count_of limit s) n e in rw (is, d.0, d.1)

@@ -1,15 +1,15 @@
 -- A line is a record exactly where it is the written form of seven bit patterns; and the record has the floats of these.
-use mathlib.Core.Path.{◌≡◌, refl, ap, ◌∙◌, sym, subst}
-use mathlib.Core.Bool.{Bool, true, false}
-use mathlib.Core.List.{List, [], ◌∷◌, ◌++◌}
-use Prim.Native.Nat.{ℕ, suc, ◌+◌, ◌*◌}
+use mathlib.Core.Path.{◌≡◌, ap, ◌∙◌, sym, subst}
+use mathlib.Core.Bool.{true}
+use mathlib.Core.List.{List, [], ◌∷◌}
+use Prim.Native.Nat.{ℕ}
 use native.Mathlib.Omega.{arith}
 use lib.Dec.{eqb}
 use lib.ListN.{length, get_or, drop, length-drop}
 use borrow.Author.Tests.{eq-eqb, eqb-true}
 use Rattle.lines.specs.declared.record.Walk.{Walk}
-use Rattle.lines.specs.declared.record.Asked.{Asked}
-use Rattle.lines.specs.declared.record.Asked.TheVariants.{Record, NoRecord}
+use Rattle.std.specs.Prelude.{Option}
+use Rattle.std.specs.Prelude.{Some, None}
 use Rattle.numbers.specs.Told.{choose}
 use Rattle.lines.specs.Fields.{AreBits}
 use Rattle.lines.specs.Parts.{tabbeds, all_good, bits_of}
@@ -22,7 +22,7 @@ unfolding walk_line
 line_of ps = parted_each (87 ∷ []) ps
 
 -- the written form of seven patterns is the record of them
-pub record_back : (ps : List ℕ) → length ps ≡ 7 → AreBits ps → record_of (walk_line ps) ≡ Record (walk_of ps)
+pub record_back : (ps : List ℕ) → length ps ≡ 7 → AreBits ps → record_of (walk_line ps) ≡ Some (walk_of ps)
 unfolding record_of
 record_back ps seven bits =
     let long : length (87 ∷ each ps) ≡ 64 = omega (arith, length_each ps) in
@@ -42,17 +42,17 @@ from_front : (s : List ℕ) → length s ≡ 64 → (ps : List ℕ) → get_or s
 from_front [] e ps first rest = absurd (omega arith)
 from_front (b ∷ s) e ps first rest = ap (λ (x : ℕ). x ∷ s) first ∙ ap (λ (t : List ℕ). 87 ∷ t) rest ∙ sym (line_of ps)
 
-pub record_exact : (s : List ℕ) (w : Walk) → record_of s ≡ Record w → ReadFrom s w
+pub record_exact : (s : List ℕ) (w : Walk) → record_of s ≡ Some w → ReadFrom s w
 unfolding record_of
 record_exact s w =
     let fs = tabbeds 7 (drop 1 s) in
     let t = eqb (get_or s 0 0) 87 in
-    chosen (λ (a : Asked). a ≡ Record w →
-    ReadFrom s w) (eqb (length s) 64) (choose (all_good t fs) (Record (walk_of (bits_of fs))) NoRecord)
-    NoRecord
+    chosen (λ (a : Option Walk). a ≡ Some w →
+    ReadFrom s w) (eqb (length s) 64) (choose (all_good t fs) (Some (walk_of (bits_of fs))) None)
+    None
     (λ long.
     let l : length s ≡ 64 = eqb-true (length s) 64 long in
-    chosen (λ (a : Asked). a ≡ Record w → ReadFrom s w) (all_good t fs) (Record (walk_of (bits_of fs))) NoRecord
+    chosen (λ (a : Option Walk). a ≡ Some w → ReadFrom s w) (all_good t fs) (Some (walk_of (bits_of fs))) None
     (λ good e.
     let was = rows_exact 7 t (drop 1 s) (omega (arith, length-drop 1 s)) good in
     record {

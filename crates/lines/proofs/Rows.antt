@@ -1,21 +1,19 @@
 -- Fields in a row, each a tab and eight hex digits: they are good exactly where they are the written form of their bit patterns.
-use mathlib.Core.Path.{◌≡◌, refl, ap, ◌∙◌, sym, subst}
-use mathlib.Core.Bool.{Bool, true, false, ◌&&◌, false≢true, and-true}
-use mathlib.Core.List.{List, [], ◌∷◌, ◌++◌, map, append-nil, append_assoc}
-use Prim.Native.Nat.{ℕ, zero, suc, ◌+◌, ◌*◌, ◌≤◌, ◌<◌, ◌^◌}
+use mathlib.Core.Path.{◌≡◌, refl, ap, ◌∙◌, sym}
+use mathlib.Core.Bool.{Bool, true, ◌&&◌, false≢true, and-true}
+use mathlib.Core.List.{List, [], ◌∷◌, ◌++◌, map, append-nil}
+use Prim.Native.Nat.{ℕ, zero, suc, ◌*◌, ◌<◌, ◌^◌}
 use native.Mathlib.Omega.{arith}
 use lib.Dec.{eqb}
-use lib.ListN.{length, get_or, take, drop, length-append, length-drop, take-append-drop}
+use lib.ListN.{length, take, drop, length-append, length-drop, take-append-drop}
 use lib.Seq.{take_at, drop_at}
 use borrow.Author.Tests.{eqb-true}
-use Rattle.lines.specs.declared.digits.Digits.{Digits}
-use Rattle.lines.specs.declared.fields.Field.{Field}
 use Rattle.lines.specs.Digits.{hex, hex_of}
 use Rattle.lines.specs.Fields.{parted, AreBits}
 use Rattle.lines.specs.Parts.{tabbed, tabbeds, all_good, bits_of}
 use Rattle.numbers.proofs.OnePass.{and_left, and_right}
 use Rattle.lines.proofs.Numerals.{length_hex}
-use Rattle.lines.proofs.Exact.{hex_back, hex_exact, good_digits}
+use Rattle.lines.proofs.Exact.{hex_back, hex_exact}
 
 -- bit patterns in a row, each after a tab
 abbrev pub each : List ℕ → List ℕ

@@ -1,15 +1,16 @@
 -- A digit's byte and its value: each is the other's inverse. And a list is built from the left, so what holds of a list holds of it with a
 -- byte behind it.
-use mathlib.Core.Path.{◌≡◌, refl, ap, ◌∙◌, sym, subst}
-use mathlib.Core.Bool.{Bool, true, false, ◌&&◌}
+use mathlib.Core.Path.{◌≡◌, sym, subst}
+use mathlib.Core.Bool.{Bool, true, false, ◌&&◌, ◌||◌, false≢true}
 use mathlib.Core.List.{List, [], ◌∷◌, ◌++◌, append-nil, append_assoc}
 use mathlib.Core.Logic.{⊎_elim}
 use Prim.Native.Nat.{ℕ, ◌+◌, ◌-◌, ◌*◌, ◌/◌, ◌%◌, ◌≤◌, ◌<◌}
 use native.Mathlib.Omega.{arith}
 use lib.Dec.{leb, ltb}
-use borrow.Author.Tests.{lt-ltb, le-ltb, le-leb, lt-leb, leb-true}
+use borrow.Author.Tests.{lt-ltb, le-ltb, le-leb, lt-leb, leb-true, ltb-true, ltb-false}
+use Rattle.std.specs.Prelude.{Option, Some, None}
 use Rattle.numbers.specs.Told.{choose}
-use Rattle.lines.specs.Digits.{digit, value_of}
+use Rattle.lines.specs.Digits.{digit, value_of, digit_value}
 use Rattle.numbers.proofs.OnePass.{and_left, and_right}
 use Rattle.numbers.proofs.Flags.{lt_or_le, chosen}
 
@@ -42,6 +43,36 @@ digit_of_value b =
     let low : 97 ≤ b = leb-true 97 b (and_left (leb 97 b) (leb b 102) e') in
     simp (le-ltb (b - 87) 10 (omega arith)) (omega arith))
     (λ e' h. absurd (omega arith)))
+
+-- a byte that is no digit has no value, and one that is has its own
+pub no_digit : (b : ℕ) → digit_value b ≡ None → 16 ≤ value_of b
+no_digit b =
+    chosen (λ (o : Option ℕ). o ≡ None → 16 ≤ value_of b) (ltb (value_of b) 16) (Some (value_of b)) None
+    (λ low e. let z : ◌≡◌ {A = Bool} true false = cc in absurd (false≢true (sym z)))
+    (λ high e. ltb-false (value_of b) 16 high)
+
+pub one_digit : (b d : ℕ) → digit_value b ≡ Some d → (d ≡ value_of b) × (value_of b < 16)
+one_digit b d =
+    chosen (λ (o : Option ℕ). o ≡ Some d → (d ≡ value_of b) × (value_of b < 16)) (ltb (value_of b) 16) (Some (value_of b)) None
+    (λ low e. ((cc), ltb-true (value_of b) 16 low))
+    (λ high e. let z : ◌≡◌ {A = Bool} true false = cc in absurd (false≢true (sym z)))
+
+-- the two ranges of digits are the bytes that have a value
+pub is_digit : (b : ℕ) → ((leb 48 b && leb b 57) || (leb 97 b && leb b 102)) ≡ ltb (value_of b) 16
+unfolding value_of
+is_digit b =
+    let low = leb 48 b && leb b 57 in
+    let high = leb 97 b && leb b 102 in
+    chosen (λ (v : ℕ). (low || high) ≡ ltb v 16) low (b - 48) (choose high (b - 87) 16)
+    (λ e.
+    let few : b ≤ 57 = leb-true b 57 (and_right (leb 48 b) (leb b 57) e) in
+    rw e (sym (lt-ltb (b - 48) 16 (omega arith))))
+    (λ e.
+    chosen (λ (v : ℕ). (low || high) ≡ ltb v 16) high (b - 87) 16
+    (λ e'.
+    let few : b ≤ 102 = leb-true b 102 (and_right (leb 97 b) (leb b 102) e') in
+    rw (e, e') (sym (lt-ltb (b - 87) 16 (omega arith))))
+    (λ e'. rw (e, e')))
 
 -- letters have the bit of 64, and nine more than their lowest four bits
 pub digit_by_bits : (b : ℕ) → value_of b < 16 → b % 16 + b / 64 * 9 ≡ value_of b

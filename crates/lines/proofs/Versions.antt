@@ -8,8 +8,8 @@ use lib.ListN.{length}
 use borrow.Author.Tests.{ne_eqb}
 use Rattle.lines.specs.declared.listed.Line.{Line}
 use Rattle.lines.specs.declared.listed.Line.TheVariants.{Header, Move, Arrived, Refused}
-use Rattle.lines.specs.declared.listed.Found.{Found}
-use Rattle.lines.specs.declared.listed.Found.TheVariants.{Known, NoLine}
+use Rattle.std.specs.Prelude.{Option}
+use Rattle.std.specs.Prelude.{Some, None}
 use Rattle.lines.specs.Digits.{digit, numeral, hex, decimal, decimal_within, value_of, push, push_all, count_of, hex_of}
 use Rattle.lines.specs.Fields.{parted, AreBits}
 use Rattle.lines.specs.Parts.{tabbed, tabbeds, all_good, bits_of, short_of}
@@ -23,7 +23,7 @@ pub no_other : (v : ℕ) → (v ≡ 1 → ⊥) → (v ≡ 2 → ⊥) → count_d
 unfolding count_digits
 no_other v not_one not_two = rw (ne_eqb v 1 not_one, ne_eqb v 2 not_two)
 
-pub only_a_header : (s : List ℕ) (line : Line) → line_of 0 s ≡ Known line → (v : ℕ) × (line ≡ Header v)
+pub only_a_header : (s : List ℕ) (line : Line) → line_of 0 s ≡ Some line → (v : ℕ) × (line ≡ Header v)
 unfolding Listable
 only_a_header s line e = by_kind line (line_exact 0 s line e).listable
   where
@@ -37,7 +37,7 @@ only_a_header s line e = by_kind line (line_exact 0 s line e).listable
     by_kind (Refused n) d = none n d
 
 -- ---- a line whose count has too many digits is not found
-pub same_line : (a b : Line) → Known a ≡ Known b → a ≡ b
+pub same_line : (a b : Line) → Some a ≡ Some b → a ≡ b
 same_line a b e = cc
 
 -- a line of a version is a line of any that allows more digits
@@ -48,13 +48,13 @@ wider limit (Move m) d = ((d.0.1, d.0.1), d.1)
 wider limit (Arrived n) d = (d.1, d.1)
 wider limit (Refused n) d = (d.1, d.1)
 
-pub too_many_digits : (limit : ℕ) (line : Line) → Listable 9 line → (Listable limit line → ⊥) → line_of limit (body line) ≡ NoLine
+pub too_many_digits : (limit : ℕ) (line : Line) → Listable 9 line → (Listable limit line → ⊥) → line_of limit (body line) ≡ None
 unfolding Listable
 too_many_digits limit line good many = by_found (line_of limit (body line)) refl
   where
-    by_found : (f : Found) → line_of limit (body line) ≡ f → line_of limit (body line) ≡ NoLine
-    by_found NoLine e = e
-    by_found (Known l) e =
+    by_found : (f : Option Line) → line_of limit (body line) ≡ f → line_of limit (body line) ≡ None
+    by_found None e = e
+    by_found (Some l) e =
         let was = line_exact limit (body line) l e in
         let is : line ≡ l =
         same_line line l (sym (line_back 9 line good) ∙ ap (line_of 9) was.bytes ∙ line_back 9 l (wider limit l was.listable)) in
@@ -65,12 +65,12 @@ module _ (n : ℕ) (six : length (decimal n) ≡ 6) where
   nine : Digited 9 n
   nine = (omega (arith, six), omega (arith, six))
 
-  pub arrived_not_in_1 : line_of (count_digits 1) (body (Arrived n)) ≡ NoLine
+  pub arrived_not_in_1 : line_of (count_digits 1) (body (Arrived n)) ≡ None
   unfolding count_digits Listable
   arrived_not_in_1 = too_many_digits 5 (Arrived n) nine (λ d. omega (arith, six, d.0))
 
   pub moved_not_in_1 : (x y z : ℕ) → AreBits (x ∷ y ∷ z ∷ [])
-      → line_of (count_digits 1) (body (Move (record { count = n; x = x; y = y; z = z }))) ≡ NoLine
+      → line_of (count_digits 1) (body (Move (record { count = n; x = x; y = y; z = z }))) ≡ None
   unfolding count_digits Listable
   moved_not_in_1 x y z bits =
       too_many_digits 5 (Move (record { count = n; x = x; y = y; z = z })) (nine, bits) (λ d. omega (arith, six, d.0.0))
@@ -93,20 +93,20 @@ near_bytes : body (Arrived 99999) ≡ 65 ∷ 9 ∷ 57 ∷ 57 ∷ 57 ∷ 57 ∷ 5
 unfolding body parted
 near_bytes = ap (λ (d : List ℕ). 65 ∷ 9 ∷ d) near_digits
 
-pub far_read : line_of (count_digits 2) (body (Arrived 147457)) ≡ Known (Arrived 147457)
+pub far_read : line_of (count_digits 2) (body (Arrived 147457)) ≡ Some (Arrived 147457)
 unfolding count_digits line_of short_of count_of push_all push value_of
 far_read = ap (line_of (count_digits 2)) far_bytes ∙ refl
 
-pub far_not_in_1 : line_of (count_digits 1) (body (Arrived 147457)) ≡ NoLine
+pub far_not_in_1 : line_of (count_digits 1) (body (Arrived 147457)) ≡ None
 unfolding count_digits line_of short_of count_of push_all push value_of
 far_not_in_1 = ap (line_of (count_digits 1)) far_bytes ∙ refl
 
-pub near_in_both : (line_of (count_digits 2) (body (Arrived 99999)) ≡ Known (Arrived 99999))
-    × (line_of (count_digits 1) (body (Arrived 99999)) ≡ Known (Arrived 99999))
+pub near_in_both : (line_of (count_digits 2) (body (Arrived 99999)) ≡ Some (Arrived 99999))
+    × (line_of (count_digits 1) (body (Arrived 99999)) ≡ Some (Arrived 99999))
 unfolding count_digits line_of short_of count_of push_all push value_of
 near_in_both = (ap (line_of (count_digits 2)) near_bytes ∙ refl, ap (line_of (count_digits 1)) near_bytes ∙ refl)
 
-pub none_in_3 : line_of (count_digits 3) (body (Arrived 1)) ≡ NoLine
+pub none_in_3 : line_of (count_digits 3) (body (Arrived 1)) ≡ None
 unfolding count_digits line_of short_of count_of push_all push value_of body parted decimal decimal_within digit
 none_in_3 = refl
 
@@ -121,9 +121,9 @@ step_bytes : (k : ℕ) (d : List ℕ) → decimal k ≡ d → body (far_step k) 
 unfolding body parted
 step_bytes k d e = ap step_text e
 
-pub steps_read : (line_of (count_digits 2) (body (far_step 147457)) ≡ Known (far_step 147457))
-    × (line_of (count_digits 1) (body (far_step 147457)) ≡ NoLine)
-    × (line_of (count_digits 1) (body (far_step 99999)) ≡ Known (far_step 99999))
+pub steps_read : (line_of (count_digits 2) (body (far_step 147457)) ≡ Some (far_step 147457))
+    × (line_of (count_digits 1) (body (far_step 147457)) ≡ None)
+    × (line_of (count_digits 1) (body (far_step 99999)) ≡ Some (far_step 99999))
 unfolding count_digits line_of move_of tabbeds tabbed all_good bits_of hex_of count_of push_all push value_of hex numeral digit
 steps_read = (
   ap (line_of (count_digits 2)) (step_bytes 147457 _ far_digits) ∙ refl,

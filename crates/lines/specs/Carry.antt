@@ -3,6 +3,7 @@ use Rattle.std.specs.Prelude.{ℕ, ◌+◌, Bool, true, false, ◌||◌, List, [
 use Rattle.numbers.specs.Told.{choose}
 use Rattle.lines.specs.Fields.{newline}
 use Rattle.lines.specs.declared.carry.Carry.{Carry}
+use Rattle.lines.specs.declared.carry.Carry.TheVariants.{Whole, Overlong}
 
 -- what is kept of a line: its bytes, or that it is too long
 pub record Held : Type 0 where
@@ -10,7 +11,8 @@ pub record Held : Type 0 where
   pub text : List ℕ
 
 abbrev pub held : Carry → Held
-held c = record { overlong = c.overlong; text = take c.len c.bytes }
+held (Whole front) = record { overlong = false; text = take front.len front.bytes }
+held Overlong = record { overlong = true; text = [] }
 
 -- whether a line has begun
 unfoldable pub has_begun : Held → Bool

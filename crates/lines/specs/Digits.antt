@@ -2,9 +2,8 @@
 -- decimal digits, no leading zero". How numbers are written, and how bytes are read as digits. How many digits a count may have is a
 -- limit here, since it depends on the listing's version (request K9): specs/Lines has it.
 use Rattle.std.specs.Prelude.{ℕ, zero, suc, ◌+◌, ◌-◌, ◌*◌, ◌/◌, ◌%◌, Bool, true, false, ◌&&◌, ◌||◌, not, List, [], ◌∷◌, ◌++◌, eqb, leb, ltb}
-use Rattle.std.specs.Prelude.{length, get_or}
+use Rattle.std.specs.Prelude.{length, get_or, Option, Some, None}
 use Rattle.numbers.specs.Told.{choose}
-use Rattle.lines.specs.declared.digits.Digits.{Digits}
 
 -- the byte of a digit's value: 0 to 9, then a to f
 unfoldable pub digit : ℕ → ℕ
@@ -31,6 +30,19 @@ decimal n = decimal_within (suc n) n
 -- the value of a byte as a digit; 16 where it is none
 unfoldable pub value_of : ℕ → ℕ
 value_of b = choose (leb 48 b && leb b 57) (b - 48) (choose (leb 97 b && leb b 102) (b - 87) 16)
+
+-- what a run of bytes says as digits: whether it is good, and the number
+pub record Digits : Type 0 where
+  pub good : Bool
+  pub value : ℕ
+
+-- the number, where the bytes are good
+abbrev pub number : Digits → Option ℕ
+number d = choose d.good (Some d.value) None
+
+-- the value of one byte as a digit, where it is one
+abbrev pub digit_value : ℕ → Option ℕ
+digit_value b = choose (ltb (value_of b) 16) (Some (value_of b)) None
 
 -- bytes read as digits of the base: good where each is one, and their number
 unfoldable pub push : ℕ → Digits → ℕ → Digits

@@ -1,9 +1,17 @@
 -- How ours reads a line: by the places of its parts. (That a line is accepted exactly where it is the written form is proved.)
-use Rattle.std.specs.Prelude.{ℕ, zero, suc, Bool, true, false, ◌&&◌, List, [], ◌∷◌, eqb, ltb, length, get_or, take, drop}
+use Rattle.std.specs.Prelude.{ℕ, zero, suc, Bool, false, ◌&&◌, List, [], ◌∷◌, eqb, ltb, length, get_or, take, drop, Option, Some, None}
 use Rattle.numbers.specs.Told.{choose}
 use Rattle.lines.specs.Digits.{hex_of, count_of}
 use Rattle.lines.specs.Fields.{tab}
-use Rattle.lines.specs.declared.fields.Field.{Field}
+
+-- what a field says: whether it is good, and its number
+pub record Field : Type 0 where
+  pub good : Bool
+  pub bits : ℕ
+
+-- the number, where the field is good
+abbrev pub field_number : Field → Option ℕ
+field_number f = choose f.good (Some f.bits) None
 
 -- a tab and eight hex digits at the front of a text
 unfoldable pub tabbed : List ℕ → Field

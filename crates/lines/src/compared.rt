@@ -1,4 +1,4 @@
-// The lines that a comparison of two listings prints, written into a lent buffer (request K1).
+// The lines that a comparison of two listings prints, written into a lent buffer.
 ghost use Rattle.std.specs.Prelude.{◌≡◌, [], ◌+◌, ◌≤◌, leb, length};
 ghost use Rattle.numbers.specs.Told.{choose};
 ghost use Rattle.lines.specs.Lines.{lettered, ended};
@@ -8,17 +8,17 @@ ghost use Rattle.lines.specs.Compared.{coordinate, coordinates, differing, refus
 use crate::listed::Moved;
 use crate::put;
 
-// Two steps at a position: the bench's and the office's.
-#[derive(Clone, Copy)]
+/// Two steps at a position: the bench's and the office's.
+#[derive(Clone, Copy, Debug, PartialEq, Eq)]
 pub struct Both {
     pub position: u64,
     pub bench: Moved,
     pub office: Moved,
 }
 
-// What a position tells: nothing, where the lines are the same; a difference, of two steps or of any other lines; that a line is bad; and
-// after the last one, how many differed.
-#[derive(Clone, Copy)]
+/// What a position tells: nothing, where the lines are the same; a difference, of two steps or of any other lines; that a line is bad; and
+/// after the last one, how many differed.
+#[derive(Clone, Copy, Debug, PartialEq, Eq)]
 pub enum Told {
     Same,
     Differs(u64),
@@ -89,7 +89,7 @@ fn put_refusal(buf: &mut [u8], at: usize, position: u64) -> usize
     put_short(buf, a, b'7', position)
 }
 
-// Whether the longest line, of 83 bytes, has room from `at` on in a buffer of n bytes.
+/// Whether the longest line, of 83 bytes, has room from `at` on in a buffer of n bytes.
 pub fn has_room(n: usize, at: usize) -> bool
     ensures { result ≡ leb (at + 83) n }
 {
@@ -102,8 +102,8 @@ pub fn has_room(n: usize, at: usize) -> bool
     true
 }
 
-// What a position tells, stored from `at` on; gives the place after it. No line is longer than 83 bytes: where the buffer has not that much
-// room, nothing is stored and the place stays.
+/// What a position tells, stored from `at` on; gives the place after it. No line is longer than 83 bytes: where the buffer has not that
+/// much room, nothing is stored and the place stays.
 pub fn put_told(buf: &mut [u8], at: usize, told: Told) -> usize
     ensures { Stored buf.old at (choose (has_told_room buf.old at) (told_text told) []) result buf.new }
 {

@@ -1,27 +1,20 @@
 // Fields parted by a separator byte: a tab for the walk printer, a blank for operation lines.
 ghost use Rattle.std.specs.Prelude.{◌≡◌, true, ◌+◌, ◌≤◌, length, drop};
 ghost use Rattle.lines.specs.Fields.{field_end};
-ghost use Rattle.lines.specs.Parts.{tabbed, short_of};
+ghost use Rattle.lines.specs.Parts.{tabbed, field_number, short_of};
 
 use crate::digits;
 
-// A number read from a field, and whether the field was good.
-#[derive(Clone, Copy)]
-pub struct Field {
-    pub good: bool,
-    pub bits: u32,
-}
-
-// Three of them: x, y, z.
-#[derive(Clone, Copy)]
+/// The bit patterns of three coordinates.
+#[derive(Clone, Copy, Debug, PartialEq, Eq)]
 pub struct Three {
-    pub good: bool,
     pub x: u32,
     pub y: u32,
     pub z: u32,
 }
 
 // Whether eight bytes follow of which none is the separator.
+// Kept: eight tests without a branch between them; `all` would stop at each of them, and is no plainer beside the eight that are passed.
 fn eight_clear(s: &[u8], at: usize, separator: u8) -> bool
     ensures { result ≡ true → (at + 8 ≤ length s.now)
         × (field_end separator s.now (at + 8) ≡ field_end separator s.now at) }
@@ -43,21 +36,22 @@ fn eight_clear(s: &[u8], at: usize, separator: u8) -> bool
         & (s[at + 7] != separator)
 }
 
-// The place of the first separator from `from` on, or the end. Eight bytes are passed at a time.
+/// The place of the first separator from `from` on, or the end. Eight bytes are passed at a time.
 pub fn field_end(s: &[u8], from: usize, separator: u8) -> usize
     ensures { result ≡ field_end separator s.now from }
 {
+    let n = s.len();
     let mut i = from;
+    // Kept: a step of eight bytes, as long as none of them is the separator. A `for` has no such end.
     while eight_clear(s, i, separator) {
         i += 8;
     }
-    while i < s.len() {
-        if s[i] == separator {
-            return i;
+    for k in i..n {
+        if s[k] == separator {
+            return k;
         }
-        i += 1;
     }
-    i
+    i.max(n)
 }
 
 // Whether a tab stands at a place and eight hex digits after it.
@@ -80,21 +74,17 @@ pub(crate) fn bits_at(s: &[u8], at: usize) -> u32
     digits::spelt(&s[a..e]) as u32
 }
 
-// A line of a letter, a tab and a count, apart from which letter it is.
-pub(crate) fn short_of(s: &[u8], limit: usize) -> Field
-    ensures { result ≡ short_of limit s.now }
+// The count of a line of a letter, a tab and a count, apart from which letter it is.
+pub(crate) fn short_of(s: &[u8], limit: usize) -> Option<u32>
+    ensures { result ≡ field_number (short_of limit s.now) }
 {
-    let n = s.len();
-    if n < 2 {
-        return Field {
-            good: false,
-            bits: 0,
-        };
+    if s.len() < 2 {
+        return None;
     }
-    let a: usize = 2;
-    let d = digits::count(&s[a..n], limit);
-    Field {
-        good: (s[1] == 9) & d.good,
-        bits: d.value as u32,
+    let count = digits::count(&s[2..], limit)?;
+    if s[1] == b'\t' {
+        Some(count as u32)
+    } else {
+        None
     }
 }

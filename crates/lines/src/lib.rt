@@ -5,6 +5,7 @@ pub mod carry;
 pub mod compared;
 pub mod digits;
 pub mod fields;
+mod front;
 pub mod listed;
 mod put;
 pub mod record;

@@ -1,16 +1,15 @@
 // The lines of a listing: written into a lent buffer, and read back.
 ghost use Rattle.std.specs.Prelude.{◌≡◌, true, [], ◌+◌, ◌≤◌, length, get_or, drop};
 ghost use Rattle.numbers.specs.Told.{choose};
-ghost use Rattle.lines.specs.Parts.{tabbeds, all_good, bits_of};
+ghost use Rattle.lines.specs.Parts.{field_number, tabbeds, all_good, bits_of};
 ghost use Rattle.lines.specs.Reading.{named, header_of, moved, move_of, line_of};
 ghost use Rattle.numbers.specs.Stored.{Stored};
 ghost use Rattle.lines.specs.Lines.{written, ended, lettered, has_room, count_digits};
 
-use crate::fields::Field;
 use crate::{digits, fields, put};
 
-// A step that moved: its count from 1, and the new point as bit patterns.
-#[derive(Clone, Copy)]
+/// A step that moved: its count from 1, and the new point as bit patterns.
+#[derive(Clone, Copy, Debug, PartialEq, Eq)]
 pub struct Moved {
     pub count: u32,
     pub x: u32,
@@ -18,8 +17,8 @@ pub struct Moved {
     pub z: u32,
 }
 
-// A line of a listing: the header with its version, a step, the count of a walk that arrived, a refusal's number.
-#[derive(Clone, Copy)]
+/// A line of a listing: the header with its version, a step, the count of a walk that arrived, a refusal's number.
+#[derive(Clone, Copy, Debug, PartialEq, Eq)]
 pub enum Line {
     Header(u32),
     Move(Moved),
@@ -27,12 +26,8 @@ pub enum Line {
     Refused(u32),
 }
 
-// What a line read back is.
-#[derive(Clone, Copy)]
-pub enum Found {
-    Known(Line),
-    NoLine,
-}
+// Kept: `put_line` alone calls the three below, each where it has seen that there is room; a type for that would be made and taken apart
+// in one `match`.
 
 // A step's line.
 pub(crate) fn put_move(buf: &mut [u8], at: usize, m: Moved) -> usize
@@ -67,8 +62,8 @@ pub(crate) fn put_header(buf: &mut [u8], at: usize, version: u32) -> usize
     put::newline(buf, b)
 }
 
-// A line with its newline, stored from `at` on; gives the place after it. No line is longer than 40 bytes: where the
-// buffer has not that much room, nothing is stored and the place stays.
+/// A line with its newline, stored from `at` on; gives the place after it. No line is longer than 40 bytes: where the
+/// buffer has not that much room, nothing is stored and the place stays.
 pub fn put_line(buf: &mut [u8], at: usize, line: Line) -> usize
     ensures { Stored buf.old at (choose (has_room buf.old at) (written line) []) result buf.new
         × (result ≤ at + 40) }
@@ -88,8 +83,8 @@ pub fn put_line(buf: &mut [u8], at: usize, line: Line) -> usize
     }
 }
 
-// How many digits a count has at most in a listing of this version: five in version 1, six in version 2, and none in any other, which
-// is no version.
+/// How many digits a count has at most in a listing of this version: five in version 1, six in version 2, and none in any other, which
+/// is no version.
 pub fn count_digits(version: u32) -> usize
     ensures { result ≡ count_digits version }
 {
@@ -99,22 +94,11 @@ pub fn count_digits(version: u32) -> usize
     if version == 2 { 6 } else { 0 }
 }
 
-// A line where the bytes were good.
-fn known(good: bool, line: Line) -> Found
-    ensures { result ≡ choose good (Found.Known line) Found.NoLine }
-{
-    if good {
-        Found::Known(line)
-    } else {
-        Found::NoLine
-    }
-}
-
 // The first byte of a line, 0 where there is none.
 fn first(s: &[u8]) -> u8
     ensures { result ≡ get_or s.now 0 0 }
 {
-    if s.len() == 0 { 0 } else { s[0] }
+    s.first().copied().unwrap_or(0)
 }
 
 // Whether a line begins with the header's name and a tab.
@@ -122,33 +106,18 @@ fn named(s: &[u8]) -> bool
     requires { 12 ≤ length s.now }
     ensures { result ≡ named s.now }
 {
-    let word = b"hopper-walk\t";
-    let mut good = true;
-    let mut i: usize = 0;
-    while i < 12 {
-        good = good & (s[i] == word[i]);
-        i += 1;
-    }
-    good
+    s.starts_with(b"hopper-walk\t")
 }
 
 // The header's version.
-fn header_of(s: &[u8]) -> Field
-    ensures { result ≡ header_of s.now }
+fn header_of(s: &[u8]) -> Option<u32>
+    ensures { result ≡ field_number (header_of s.now) }
 {
-    let n = s.len();
-    if n < 12 {
-        return Field {
-            good: false,
-            bits: 0,
-        };
+    if s.len() < 12 {
+        return None;
     }
-    let a: usize = 12;
-    let d = digits::count(&s[a..n], 9);
-    Field {
-        good: named(s) & d.good,
-        bits: d.value as u32,
-    }
+    let version = digits::count(&s[12..], 9)?;
+    if named(s) { Some(version as u32) } else { None }
 }
 
 // Whether a tab and eight hex digits stand at a place three times.
@@ -173,40 +142,31 @@ fn moved_to(count: u32, s: &[u8], at: usize) -> Moved
 }
 
 // The line of a step: its three patterns are the last 27 bytes.
-fn move_of(s: &[u8], limit: usize) -> Found
+fn move_of(s: &[u8], limit: usize) -> Option<Line>
     ensures { result ≡ move_of limit s.now }
 {
     let n = s.len();
     if n < 29 {
-        return Found::NoLine;
+        return None;
     }
-    let a: usize = 2;
     let e = n - 27;
-    let d = digits::count(&s[a..e], limit);
-    if (s[0] == b'M') & (s[1] == 9) & d.good & three_tabbed(s, e) {
-        Found::Known(Line::Move(moved_to(d.value as u32, s, e)))
+    let count = digits::count(&s[2..e], limit)?;
+    if (s[0] == b'M') & (s[1] == b'\t') & three_tabbed(s, e) {
+        Some(Line::Move(moved_to(count as u32, s, e)))
     } else {
-        Found::NoLine
+        None
     }
 }
 
-// The line that some bytes are, without their newline. Counts have at most `limit` digits, which is `count_digits` of the listing's
-// version, and never more than nine.
-pub fn line_of(s: &[u8], limit: usize) -> Found
+/// The line that some bytes are, without their newline. Counts have at most `limit` digits, which is `count_digits` of the listing's
+/// version, and never more than nine. `None` where the bytes are no line.
+pub fn line_of(s: &[u8], limit: usize) -> Option<Line>
     ensures { result ≡ line_of limit s.now }
 {
-    let b = first(s);
-    if b == b'M' {
-        return move_of(s, limit);
+    match first(s) {
+        b'M' => move_of(s, limit),
+        b'A' => Some(Line::Arrived(fields::short_of(s, limit)?)),
+        b'R' => Some(Line::Refused(fields::short_of(s, limit)?)),
+        _ => Some(Line::Header(header_of(s)?)),
     }
-    if b == b'A' {
-        let count = fields::short_of(s, limit);
-        return known(count.good, Line::Arrived(count.bits));
-    }
-    if b == b'R' {
-        let number = fields::short_of(s, limit);
-        return known(number.good, Line::Refused(number.bits));
-    }
-    let version = header_of(s);
-    known(version.good, Line::Header(version.bits))
 }

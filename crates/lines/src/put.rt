@@ -8,26 +8,15 @@ ghost use Rattle.numbers.specs.Stored.{Stored};
 ghost use Rattle.lines.specs.Lines.{walk_word};
 
 // The byte of a number's lowest hex digit.
+#[tactic(auto, unfolding(crate::specs::Digits::digit))]
 fn digit(n: u64) -> u8
     ensures { result ≡ digit (n % 16) }
 {
-    match n % 16 {
-        0 => b'0',
-        1 => b'1',
-        2 => b'2',
-        3 => b'3',
-        4 => b'4',
-        5 => b'5',
-        6 => b'6',
-        7 => b'7',
-        8 => b'8',
-        9 => b'9',
-        10 => b'a',
-        11 => b'b',
-        12 => b'c',
-        13 => b'd',
-        14 => b'e',
-        _ => b'f',
+    let low = (n % 16) as u8;
+    if low < 10 {
+        b'0' + low
+    } else {
+        b'a' - 10 + low
     }
 }
 
@@ -61,6 +50,7 @@ pub(crate) fn newline(buf: &mut [u8], at: usize) -> usize
 }
 
 // A tab and eight hex digits.
+// Kept: eight stores written out: a loop would take the number apart from its end and store backwards, which is no plainer.
 pub(crate) fn pattern(buf: &mut [u8], at: usize, n: u32) -> usize
     requires { at + 9 ≤ length buf.old }
     ensures { Stored buf.old at (tab ∷ hex n) result buf.new }
@@ -89,6 +79,7 @@ pub(crate) fn pattern(buf: &mut [u8], at: usize, n: u32) -> usize
 fn width(n: u64) -> usize
     ensures { result ≡ length (decimal n) }
 {
+    // Kept: a division at each turn and no index: the number says how often.
     let mut m = n;
     let mut w = 1;
     while 9 < m {
@@ -104,6 +95,7 @@ pub(crate) fn count(buf: &mut [u8], at: usize, n: u64) -> usize
     ensures { Stored buf.old at (decimal n) result buf.new }
 {
     let end = at + width(n);
+    // Kept: as in `width`; the digits come from the last to the first.
     let mut j = end - 1;
     let mut m = n;
     while 9 < m {
@@ -120,17 +112,6 @@ pub(crate) fn name(buf: &mut [u8], at: usize) -> usize
     requires { at + 12 ≤ length buf.old }
     ensures { Stored buf.old at (walk_word ++ (tab ∷ [])) result buf.new }
 {
-    buf[at] = b'h';
-    buf[at + 1] = b'o';
-    buf[at + 2] = b'p';
-    buf[at + 3] = b'p';
-    buf[at + 4] = b'e';
-    buf[at + 5] = b'r';
-    buf[at + 6] = b'-';
-    buf[at + 7] = b'w';
-    buf[at + 8] = b'a';
-    buf[at + 9] = b'l';
-    buf[at + 10] = b'k';
-    buf[at + 11] = 9;
+    buf[at..at + 12].copy_from_slice(b"hopper-walk\t");
     at + 12
 }

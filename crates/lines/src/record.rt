@@ -6,45 +6,37 @@ ghost use Rattle.lines.specs.Record.{record_of, place_of, walk_from, walk_of, sh
 use crate::fields;
 use crate::fields::Three;
 use numbers::patterns;
-use numbers::patterns::Pattern;
 
-// Three coordinates, in metres.
-#[derive(Clone, Copy)]
+/// Three coordinates, in metres.
+#[derive(Clone, Copy, Debug, PartialEq)]
 pub struct Place {
     pub x: f32,
     pub y: f32,
     pub z: f32,
 }
 
-// What a `W` line asks for.
-#[derive(Clone, Copy)]
+/// What a `W` line asks for: the largest move, from where, to where, in metres.
+#[derive(Clone, Copy, Debug, PartialEq)]
 pub struct Walk {
     pub max_move: f32,
     pub start: Place,
     pub target: Place,
 }
 
-// What a line is.
-#[derive(Clone, Copy)]
-pub enum Asked {
-    Record(Walk),
-    NoRecord,
-}
-
-// The record of a line without its newline. A NaN's pattern gives a NaN.
-pub fn record_of(s: &[u8]) -> Asked
+/// The record of a line without its newline, `None` where it is no record. A NaN's pattern gives a NaN.
+pub fn record_of(s: &[u8]) -> Option<Walk>
     ensures { result ≡ record_of s.now }
 {
     if s.len() != 64 {
-        return Asked::NoRecord;
+        return None;
     }
     if s[0] != b'W' {
-        return Asked::NoRecord;
+        return None;
     }
     if seven_tabbed(s) {
-        Asked::Record(walk_in(s))
+        Some(walk_in(s))
     } else {
-        Asked::NoRecord
+        None
     }
 }
 
@@ -69,13 +61,11 @@ fn walk_in(s: &[u8]) -> Walk
 {
     let max_move = fields::bits_at(s, 1);
     let start = Three {
-        good: true,
         x: fields::bits_at(s, 10),
         y: fields::bits_at(s, 19),
         z: fields::bits_at(s, 28),
     };
     let target = Three {
-        good: true,
         x: fields::bits_at(s, 37),
         y: fields::bits_at(s, 46),
         z: fields::bits_at(s, 55),
@@ -107,12 +97,9 @@ fn walk_of(max_move: u32, start: Three, target: Three) -> Walk
     }
 }
 
-// The bits by which a float is written; those of the usual NaN for every NaN.
+/// The bits by which a float is written; those of the usual NaN for every NaN.
 pub fn bits_of(x: f32) -> u32
     ensures { result ≡ shown_bits x }
 {
-    match patterns::pattern_of(x) {
-        Pattern::Bits(bits) => bits,
-        Pattern::NotANumber => 0x7fc0_0000,
-    }
+    patterns::pattern_of(x).unwrap_or(0x7fc0_0000)
 }

@@ -11,12 +11,13 @@ use Rattle.lines.specs.Fields.{newline}
 use Rattle.lines.specs.Lines.{written}
 use Rattle.lines.specs.Record.{record_of}
 use Rattle.lines.specs.declared.listed.Line.TheVariants.{Header}
-use Rattle.lines.specs.declared.record.Asked.{Asked}
+use Rattle.std.specs.Prelude.{Option}
+use Rattle.lines.specs.declared.record.Walk.{Walk as Record}
 use Rattle.lines.proofs.Cutting.{run_lines, none_begun, begun_kept}
 use Rattle.numbers.proofs.Stores.{stored_stands}
 use Rattle.listing.specs.Listing.{AllPrint, listing_version, Listing}
 use Rattle.listing.specs.Asks.{asks}
-use Rattle.listing.specs.Block.{text_of}
+use Rattle.listing.specs.Block.{is_done, text_of}
 use Rattle.listing.specs.Printer.{Takes, last_run, Ends, Call, Through, Feeds, FeedsAll, PrintsSoFar, PrintsParts}
 use Rattle.listing.specs.declared.printer.Printer.{Printer}
 use Rattle.listing.specs.declared.printer.Reached.{Reached}
@@ -29,15 +30,15 @@ use Rattle.listing.proofs.Feeding.{both_print, takes_more}
 -- begun what is to be kept
 pub record Answers (run : Run) (p : Printer) (text : List ℕ) (r : Printer) : Type 0 where
   pub takes : Takes run r
-  pub done : r.rest.done ≡ true
+  pub done : (is_done r.rest) ≡ true
   pub joins : text ≡ text_of p.rest ++ takes.blocks
 
-nothing_more : (p r : Printer) (text : List ℕ) → p ≡ r → text ≡ [] → p.rest.done ≡ true
+nothing_more : (p r : Printer) (text : List ℕ) → p ≡ r → text ≡ [] → (is_done p.rest) ≡ true
     → Answers (record { finished = []; begun = held p.carry }) p text r
 nothing_more p r text same none done =
     record {
       takes = record { kept = ap (λ (x : Printer). held x.carry) (sym same); blocks = []; print = refl };
-      done = subst (λ (x : Printer). x.rest.done ≡ true) same done;
+      done = subst (λ (x : Printer). (is_done x.rest) ≡ true) same done;
       joins = none ∙ sym (ap (λ (u : List ℕ). u ++ []) (done_text p.rest done));
     }
 
@@ -75,12 +76,12 @@ part_answered (suc calls) part p from text r x =
     })
 
 -- where nothing was left to print
-pub answered_alone : {run : Run} {p r : Printer} {text : List ℕ} → p.rest.done ≡ true → (x : Answers run p text r)
+pub answered_alone : {run : Run} {p r : Printer} {text : List ℕ} → (is_done p.rest) ≡ true → (x : Answers run p text r)
     → text ≡ x.takes.blocks
 answered_alone {p = p} done x = x.joins ∙ ap (λ (u : List ℕ). u ++ x.takes.blocks) (done_text p.rest done)
 
 -- ---- all parts, while more may come
-pub parts_answered : (parts : List (List ℕ)) (p : Printer) (text : List ℕ) (r : Printer) → p.rest.done ≡ true → FeedsAll parts p text r
+pub parts_answered : (parts : List (List ℕ)) (p : Printer) (text : List ℕ) (r : Printer) → (is_done p.rest) ≡ true → FeedsAll parts p text r
     → Answers (run_from (held p.carry) (joined parts)) p text r
 unfolding joined run_from
 parts_answered [] p text r done x = nothing_more p r text x.0 x.1 done
@@ -106,7 +107,7 @@ pub record SoFar (parts : List (List ℕ)) (text : List ℕ) (r : Printer) : Typ
   pub headed : text ≡ written (Header listing_version) ++ blocks
   pub print : AllPrint (map record_of (lines_from [] (joined parts)).finished) blocks
   pub kept : held r.carry ≡ keep fresh (lines_from [] (joined parts)).begun
-  pub done : r.rest.done ≡ true
+  pub done : (is_done r.rest) ≡ true
 
 pub answered_so_far : {parts : List (List ℕ)} {text : List ℕ} {r : Printer} → PrintsSoFar parts text r → SoFar parts text r
 answered_so_far {parts} {text} {r} x =
@@ -118,7 +119,7 @@ answered_so_far {parts} {text} {r} x =
       blocks = all.takes.blocks;
       headed = x.headed ∙ ap (λ (t : List ℕ). written (Header listing_version) ++ t) alone;
       print =
-          subst (λ (as' : List Asked). AllPrint as' all.takes.blocks)
+          subst (λ (as' : List (Option Record)). AllPrint as' all.takes.blocks)
           (ap (λ (run : Run). map asks run.finished) start ∙ asked_lines s) all.takes.print;
       kept = all.takes.kept ∙ ap (λ (run : Run). run.begun) (start ∙ run_lines s);
       done = all.done;
@@ -146,11 +147,11 @@ last_prints (b ∷ l) h ls t u is x y =
     let begun : has_begun h ≡ true = ap has_begun is ∙ begun_kept b l in
     let one : AllPrint (asks h ∷ []) u = subst (λ (c : Bool). AllPrint (map asks (choose c (h ∷ []) [])) u) begun y in
     let line : asks h ≡ record_of (b ∷ l) = ap asks is ∙ asks_whole (b ∷ l) in
-    subst (λ (as' : List Asked). AllPrint as' (t ++ u)) (sym (map_app record_of ls ((b ∷ l) ∷ [])))
-    (both_print (map record_of ls) (record_of (b ∷ l) ∷ []) t u x (subst (λ (a : Asked). AllPrint (a ∷ []) u) line one))
+    subst (λ (as' : List (Option Record)). AllPrint as' (t ++ u)) (sym (map_app record_of ls ((b ∷ l) ∷ [])))
+    (both_print (map record_of ls) (record_of (b ∷ l) ∷ []) t u x (subst (λ (a : Option Record). AllPrint (a ∷ []) u) line one))
 
 -- and is answered then
-end_answered : (p r s : Printer) (text : List ℕ) → p.rest.done ≡ true → Ends p r → Feeds [] r text s
+end_answered : (p r s : Printer) (text : List ℕ) → (is_done p.rest) ≡ true → Ends p r → Feeds [] r text s
     → AllPrint (map asks (choose (has_begun (held p.carry)) (held p.carry ∷ []) [])) text
 unfolding last_run run_from
 end_answered p r s text done (e, left) x =

@@ -9,7 +9,8 @@ use borrow.Author.Tests.{le-leb, lt-leb, ne_eqb}
 use Rattle.lines.specs.Carry.{Held, fresh, has_begun, keep, lines_from, Run, run_from}
 use Rattle.lines.specs.Fields.{newline, span}
 use Rattle.lines.specs.Record.{record_of}
-use Rattle.lines.specs.declared.record.Asked.{Asked}
+use Rattle.std.specs.Prelude.{Option}
+use Rattle.lines.specs.declared.record.Walk.{Walk as Record}
 use Rattle.lines.proofs.Cutting.{short_or_long, nothing_kept, run_lines, run_some}
 use Rattle.listing.specs.Asks.{asks}
 
@@ -28,8 +29,8 @@ asks_now h s e = ap (λ (k : Held). asks (keep k s)) (nothing_kept h e) ∙ asks
 -- so the lines that the run has kept ask for what the input's lines ask for
 asks_each : (ls : List (List ℕ)) → map asks (map (keep fresh) ls) ≡ map record_of ls
 asks_each [] = refl
-asks_each (l ∷ ls) = ap (λ (a : Asked). a ∷ map asks (map (keep fresh) ls)) (asks_whole l)
-    ∙ ap (λ (as' : List Asked). record_of l ∷ as') (asks_each ls)
+asks_each (l ∷ ls) = ap (λ (a : Option Record). a ∷ map asks (map (keep fresh) ls)) (asks_whole l)
+    ∙ ap (λ (as' : List (Option Record)). record_of l ∷ as') (asks_each ls)
 
 pub asked_lines : (s : List ℕ) → map asks (run_from fresh s).finished ≡ map record_of (lines_from [] s).finished
 asked_lines s = ap (λ (r : Run). map asks r.finished) (run_lines s) ∙ asks_each (lines_from [] s).finished
@@ -48,7 +49,7 @@ asks_kept_by false t short = rw (le-leb (length t + 0) 128 (omega arith)) (ap re
 pub line_asks : (l : List ℕ) (h : Held) → span newline l ≡ length l → length h.text ≤ 128
     → (map asks (run_from h (l ++ (newline ∷ []))).finished ≡ asks (keep h l) ∷ []) × ((run_from h (l ++ (newline ∷ []))).begun ≡ fresh)
 unfolding run_from
-line_asks [] h free short = (ap (λ (a : Asked). a ∷ []) (sym (asks_kept_by h.overlong h.text short)), refl)
+line_asks [] h free short = (ap (λ (a : Option Record). a ∷ []) (sym (asks_kept_by h.overlong h.text short)), refl)
 line_asks (x ∷ l) h free short =
     let run = run_some x l (newline ∷ []) h free in
     (ap (λ (r : Run). map asks r.finished) run, ap (λ (r : Run). r.begun) run)

@@ -1,13 +1,13 @@
 -- A block's lines, one after the other, join to the block; what is left of a walk's block is that of document 01.
-use Rattle.std.specs.Prelude.{◌≡◌, ℕ, zero, suc, ◌+◌, ◌-◌, ◌<◌, ◌≤◌, Bool, true, false, not, ◌&&◌, T, eqb, ltb, leb, List, [], ◌++◌, length}
+use Rattle.std.specs.Prelude.{◌≡◌, ℕ, zero, suc, ◌+◌, ◌-◌, ◌<◌, ◌≤◌, Bool, true, false, not, ◌&&◌, T, ltb, leb, List, [], ◌++◌, length}
 use mathlib.Core.Path.{refl, sym, ap, ◌∙◌, subst}
 use mathlib.Core.Bool.{false≢true}
 use mathlib.Core.List.{append_assoc, append-nil}
 use native.Mathlib.Omega.{arith}
 use native.Mathlib.Numerals.{add-one}
-use lib.Ieee.{Float, binary32, of_bits, eq}
+use lib.Ieee.{Float}
 use lib.Ieee.Bits.{is_true, is_false}
-use borrow.Author.Tests.{ltb-true, ltb-false, leb-true, leb-false, ne_eqb}
+use borrow.Author.Tests.{ltb-true, ltb-false, leb-true, leb-false}
 use Rattle.legs.specs.declared.Point.{Point}
 use Rattle.moves.specs.Distance.{Each, same}
 use Rattle.moves.specs.Moving.{move_towards, point_of}
@@ -18,12 +18,19 @@ use Rattle.walks.proofs.Ends.{let_in_ends}
 use Rattle.numbers.specs.Told.{choose}
 use Rattle.numbers.specs.Stored.{Stored}
 use Rattle.lines.specs.Lines.{written, has_room}
-use Rattle.lines.specs.declared.listed.Line.{Line}
 use Rattle.lines.specs.declared.listed.Line.TheVariants.{Arrived, Refused}
 use Rattle.numbers.proofs.Stores.{stored_more, stored_as, stored_nothing, stored_length}
 use Rattle.listing.specs.Listing.{step, steps, WalkPrints}
-use Rattle.listing.specs.Block.{end_line, most_steps, moves_on, left, text_of, stepped, ended, after_of, line_of, lines_left, Part}
+use Rattle.listing.specs.Block.{most_steps, moves_on, left, text_of, is_done, lines_left, Part, IsNext}
 use Rattle.listing.specs.declared.block.Rest.{Rest}
+use Rattle.listing.specs.declared.block.Rest.TheVariants.{Walking, Refusing, Done}
+use Rattle.listing.specs.declared.block.Next.{Next}
+use Rattle.listing.specs.declared.block.Way.{Way}
+use Rattle.numbers.specs.Refusals.{number_of}
+use Rattle.numbers.specs.declared.refusal.Refusal.{Refusal}
+use Rattle.numbers.proofs.Numbers.{has_a_number, a_refusal_has_a_number}
+use Rattle.numbers.proofs.Flags.{not_true}
+use Rattle.numbers.proofs.OnePass.{and_left, and_right}
 
 -- of two tests, that the first fails and the second holds
 pub is_going : (d b : Bool) → (not d && b) ≡ true → d ≡ false
@@ -35,35 +42,26 @@ is_fit true b e = cc
 is_fit false b e = e
 
 -- at the target, and where no step may follow, the last line is left
-at_target : (m : Float) (t : Point) (refused k d : ℕ) (l : Point) → same l t ≡ true → left m t refused k d l ≡ written (end_line k refused)
+at_target : (m : Float) (t : Point) (k d : ℕ) (l : Point) → same l t ≡ true → left m t k d l ≡ written (Arrived k)
 unfolding left
-at_target m t refused k zero l e = refl
-at_target m t refused k (suc d) l e = rw e
-
--- so where nothing is to be gone
-abbrev nowhere : Point
-nowhere = record { x = of_bits binary32 0; y = of_bits binary32 0; z = of_bits binary32 0 }
-
-pub nowhere_left : (refused d : ℕ) → left (of_bits binary32 0) nowhere refused 0 d nowhere ≡ written (end_line 0 refused)
-unfolding same eq of_bits
-nowhere_left refused d = at_target (of_bits binary32 0) nowhere refused 0 d nowhere refl
+at_target m t k zero l e = refl
+at_target m t k (suc d) l e = rw e
 
 -- elsewhere the line of the next step comes first
-elsewhere : (m : Float) (t : Point) (refused k d : ℕ) (l : Point) → same l t ≡ false
-    → left m t refused k (suc d) l ≡ written (step (k + 1) (point_of (move_towards l t m))) ++ left m t refused (k + 1) d
-    (point_of (move_towards l t m))
+elsewhere : (m : Float) (t : Point) (k d : ℕ) (l : Point) → same l t ≡ false
+    → left m t k (suc d) l ≡ written (step (k + 1) (point_of (move_towards l t m))) ++ left m t (k + 1) d (point_of (move_towards l t m))
 unfolding left
-elsewhere m t refused k d l e = rw e
+elsewhere m t k d l e = rw e
 
 -- what is left after j of the n steps of a walk from s: the lines of the i steps after them, and the last line
 module _ (m : Float) (s t : Point) (n : ℕ) (w : Walk m s t n) where
-  at_end : (j d : ℕ) → j ≡ n → left m t 0 j d (point_after m s t j) ≡ written (Arrived n)
+  at_end : (j d : ℕ) → j ≡ n → left m t j d (point_after m s t j) ≡ written (Arrived n)
   at_end j d e =
-      at_target m t 0 j d (point_after m s t j)
+      at_target m t j d (point_after m s t j)
       (is_true (same (point_after m s t j) t) (subst (λ (k : ℕ). T (same (point_after m s t k) t)) (sym e) w.arrives))
       ∙ ap (λ (k : ℕ). written (Arrived k)) e
 
-  left_walk : (i j d : ℕ) → j + i ≡ n → i ≤ d → left m t 0 j d (point_after m s t j) ≡ steps m s t j i ++ written (Arrived n)
+  left_walk : (i j d : ℕ) → j + i ≡ n → i ≤ d → left m t j d (point_after m s t j) ≡ steps m s t j i ++ written (Arrived n)
   unfolding steps point_after
   left_walk zero j d e h = at_end j d (none e)
     where
@@ -78,67 +76,71 @@ module _ (m : Float) (s t : Point) (n : ℕ) (w : Walk m s t n) where
       let here : j < n = omega arith in
       let there : suc j + i ≡ n = omega arith in
       let fewer : i ≤ d = omega arith in
-      elsewhere m t 0 j d (point_after m s t j) (is_false (same (point_after m s t j) t) (w.least j here))
-      ∙ ap (λ (k : ℕ). written (step k p) ++ left m t 0 k d p) (add-one j)
+      elsewhere m t j d (point_after m s t j) (is_false (same (point_after m s t j) t) (w.least j here))
+      ∙ ap (λ (k : ℕ). written (step k p) ++ left m t k d p) (add-one j)
       ∙ ap (λ (r : List ℕ). written (step (suc j) p) ++ r) (left_walk i (suc j) d there fewer)
       ∙ sym (append_assoc (written (step (suc j) p)) (steps m s t (suc j) i) (written (Arrived n)))
 
   -- from the start
-  walk_left : n ≤ most_steps → left m t 0 0 (most_steps - 0) s ≡ steps m s t 0 n ++ written (Arrived n)
+  walk_left : n ≤ most_steps → left m t 0 (most_steps - 0) s ≡ steps m s t 0 n ++ written (Arrived n)
   unfolding point_after
   walk_left h =
       let all : 0 + n ≡ n = omega arith in
       let most : n ≤ most_steps - 0 = omega arith in
       left_walk n 0 (most_steps - 0) all most
 
--- the next line and what is left after it
-module _ (r : Rest) (going : r.done ≡ false) where
-  abbrev here : ℕ → List ℕ
-  here d = left r.max_move r.target r.refused r.made d r.last
+-- the next line of a walk and what is left after it
+module _ (w : Way) where
+  abbrev next_place : Point
+  next_place = point_of (move_towards w.last w.target w.max_move)
 
-  goes_on : same r.last r.target ≡ false → r.made < most_steps → text_of r ≡ written (line_of (stepped r)) ++ text_of (stepped r)
-  unfolding text_of line_of
-  goes_on away more =
-      let e : most_steps - r.made ≡ suc (most_steps - (r.made + 1)) = omega arith in
-      rw going (ap here e ∙ elsewhere r.max_move r.target r.refused r.made (most_steps - (r.made + 1)) r.last away)
+  abbrev pub stepped : Way
+  stepped = record { max_move = w.max_move; last = next_place; target = w.target; made = w.made + 1 }
 
-  ends : here (most_steps - r.made) ≡ written (end_line r.made r.refused) → text_of r ≡ written (line_of (ended r)) ++ text_of (ended r)
-  unfolding text_of line_of
-  ends e = rw going (e ∙ sym (append-nil (written (end_line r.made r.refused))))
+  pub goes_on : moves_on w.last w.target w.made ≡ true
+      → IsNext (Walking w) (record { line = step (w.made + 1) next_place; rest = Walking stepped })
+  unfolding text_of lines_left moves_on
+  goes_on e =
+      let away = not_true (same w.last w.target) (and_left (not (same w.last w.target)) (ltb w.made most_steps) e) in
+      let more : w.made < most_steps =
+      ltb-true w.made most_steps (and_right (not (same w.last w.target)) (ltb w.made most_steps) e) in
+      let k : most_steps - w.made ≡ suc (most_steps - (w.made + 1)) = omega arith in
+      record {
+        joins =
+            ap (λ (d : ℕ). left w.max_move w.target w.made d w.last) k
+            ∙ elsewhere w.max_move w.target w.made (most_steps - (w.made + 1)) w.last away;
+        fewer = omega arith;
+      }
 
-  full : most_steps ≤ r.made → here (most_steps - r.made) ≡ written (end_line r.made r.refused)
+  all_made : ltb w.made most_steps ≡ false → left w.max_move w.target w.made (most_steps - w.made) w.last ≡ written (Arrived w.made)
   unfolding left
-  full none =
-      let e : most_steps - r.made ≡ zero = omega arith in
-      ap here e
+  all_made e =
+      let none : most_steps ≤ w.made = ltb-false w.made most_steps e in
+      let k : most_steps - w.made ≡ zero = omega arith in
+      ap (λ (d : ℕ). left w.max_move w.target w.made d w.last) k
 
-  by_tests : (a b : Bool) → same r.last r.target ≡ a → ltb r.made most_steps ≡ b
-      → text_of r ≡ written (line_of (choose (not a && b) (stepped r) (ended r))) ++ text_of (choose (not a && b) (stepped r) (ended r))
-  by_tests true b d e = ends (at_target r.max_move r.target r.refused r.made (most_steps - r.made) r.last d)
-  by_tests false true d e = goes_on d (ltb-true r.made most_steps e)
-  by_tests false false d e = ends (full (ltb-false r.made most_steps e))
+  ends_by : (a b : Bool) → same w.last w.target ≡ a → ltb w.made most_steps ≡ b → (not a && b) ≡ false
+      → left w.max_move w.target w.made (most_steps - w.made) w.last ≡ written (Arrived w.made)
+  ends_by true b there more e = at_target w.max_move w.target w.made (most_steps - w.made) w.last there
+  ends_by false b there more e = all_made (more ∙ e)
 
-  pub next_line : text_of r ≡ written (line_of (after_of r)) ++ text_of (after_of r)
-  unfolding after_of moves_on
-  next_line = by_tests (same r.last r.target) (ltb r.made most_steps) refl refl
+  pub ends : moves_on w.last w.target w.made ≡ false → IsNext (Walking w) (record { line = Arrived w.made; rest = Done })
+  unfolding text_of lines_left moves_on
+  ends e =
+      record {
+        joins =
+            ends_by (same w.last w.target) (ltb w.made most_steps) refl refl e ∙ sym (append-nil (written (Arrived w.made)));
+        fewer = omega arith;
+      }
 
-  fewer_by : (a b : Bool) → ltb r.made most_steps ≡ b → lines_left (choose (a && b) (stepped r) (ended r)) < lines_left r
-  unfolding lines_left
-  fewer_by true true e = let h : r.made < most_steps = ltb-true r.made most_steps e in rw going (omega arith)
-  fewer_by true false e = rw going (omega arith)
-  fewer_by false b e = rw going (omega arith)
-
-  pub fewer : lines_left (after_of r) < lines_left r
-  unfolding after_of moves_on
-  fewer = fewer_by (not (same r.last r.target)) (ltb r.made most_steps) refl
+pub refuses : (r : Refusal) → IsNext (Refusing r) (record { line = Refused (number_of r); rest = Done })
+unfolding text_of lines_left
+refuses r = record { joins = sym (append-nil (written (Refused (number_of r)))); fewer = omega arith }
 
 -- the number of a step that follows is a u32 (of six digits: proofs/ReadBack)
 pub made_fits : (l t : Point) (k : ℕ) → moves_on l t k ≡ true → k + 1 < 4294967296
 unfolding moves_on most_steps
 made_fits l t k e = let h : k < most_steps = ltb-true k most_steps (is_fit (same l t) (ltb k most_steps) e) in omega arith
-
-pub fewer_after : (r q : Rest) → r.done ≡ false → q ≡ after_of r → lines_left q < lines_left r
-fewer_after r q going is = subst (λ (p : Rest). lines_left p < lines_left r) (sym is) (fewer r going)
 
 -- nothing is stored yet
 pub part_none : (l : List ℕ) (at : ℕ) (whole : List ℕ) → Part l at whole at whole l
@@ -152,27 +154,23 @@ pub no_room : {A : Type 0} (l l' : List ℕ) (k k' : ℕ) → has_room l k ≡ f
 no_room l l' k k' none at long room = absurd (false≢true (sym none ∙ same_room l l' k k' at long ∙ room))
 
 -- one line more
-pub part_more : {l l' l'' : List ℕ} {at k k' : ℕ} {whole : List ℕ} (r q : Rest) (x : Line)
-    → Part l at whole k (text_of r) l' → r.done ≡ false → has_room l' k ≡ true → q ≡ after_of r → x ≡ line_of q
-    → Stored l' k (choose (has_room l' k) (written x) []) k' l'' → k' ≤ k + 40 → Part l at whole k' (text_of q) l''
-part_more {l} {l'} {l''} {at} {k} {k'} {whole} r q x p going room is line s few =
+pub part_more : {l l' l'' : List ℕ} {at k k' : ℕ} {whole : List ℕ} (r : Rest) (n : Next)
+    → Part l at whole k (text_of r) l' → has_room l' k ≡ true → IsNext r n
+    → Stored l' k (choose (has_room l' k) (written n.line) []) k' l'' → k' ≤ k + 40 → Part l at whole k' (text_of n.rest) l''
+part_more {l} {l'} {l''} {at} {k} {k'} {whole} r n p room is s few =
     let fits : k + 40 ≤ length l' = leb-true (k + 40) (length l') room in
     let same : length l'' ≡ length l' = stored_length s in
     record {
-      text = p.text ++ written x;
-      stored = stored_more p.stored (stored_as (ap (λ (b : Bool). choose b (written x) []) room) s);
+      text = p.text ++ written n.line;
+      stored = stored_more p.stored (stored_as (ap (λ (b : Bool). choose b (written n.line) []) room) s);
       joins =
-          p.joins
-          ∙ ap (λ (u : List ℕ). p.text ++ u)
-          (next_line r going ∙ sym (ap (λ (n : Rest). written (line_of n) ++ text_of n) is)
-          ∙ sym (ap (λ (y : Line). written y ++ text_of q) line))
-          ∙ sym (append_assoc p.text (written x) (text_of q));
+          p.joins ∙ ap (λ (u : List ℕ). p.text ++ u) is.joins ∙ sym (append_assoc p.text (written n.line) (text_of n.rest));
       within = λ h. omega arith;
     }
 
 -- ---- the block of a walk, and of one that is refused
 abbrev begins : Float → Point → Point → Rest
-begins m s t = record { max_move = m; last = s; target = t; made = 0; refused = 0; done = false }
+begins m s t = Walking (record { max_move = m; last = s; target = t; made = 0 })
 
 given_walk : (m : Float) (s t : Point) → Fit m → Each Fit s → Each Fit t → walk_refusal m s t ≡ 0 →
     WalkPrints m s t (text_of (begins m s t))
@@ -181,11 +179,10 @@ given_walk m s t Fm Fs Ft e =
     let w = let_in_ends m s t Fm Fs Ft e in
     (w.0, rw e (walk_left m s t w.0 w.1 w.2), λ z. w.1)
 
-refused_walk : (m : Float) (s t : Point) (n : ℕ) (text : List ℕ) → walk_refusal m s t ≡ n → (n ≡ 0 → ⊥) → text ≡ written (end_line 0 n)
-    → WalkPrints m s t text
-refused_walk m s t n text r some e =
-    let b : eqb n 0 ≡ false = ne_eqb n 0 some in
-    (0, rw (r, b) (e ∙ ap (λ (a : Bool). written (choose a (Arrived 0) (Refused n))) b), λ z. absurd (some (sym r ∙ z)))
+refused_walk : (m : Float) (s t : Point) (r : Refusal) → walk_refusal m s t ≡ number_of r → WalkPrints m s t (text_of (Refusing r))
+unfolding text_of
+refused_walk m s t r is =
+    (0, rw (is, has_a_number r), λ z. absurd (a_refusal_has_a_number r (sym is ∙ z)))
 
 -- between the record's points and their copies
 module _ (m : Float) (s t s' t' : Point) (es : s' ≡ s) (et : t' ≡ t) where
@@ -195,14 +192,15 @@ module _ (m : Float) (s t s' t' : Point) (es : s' ≡ s) (et : t' ≡ t) where
   pub walk_printed : Fit m → Each Fit s' → Each Fit t' → walk_refusal m s' t' ≡ 0 → WalkPrints m s t (text_of (begins m s' t'))
   walk_printed Fm Fs Ft e = same_walk (text_of (begins m s' t')) (given_walk m s' t' Fm Fs Ft e)
 
-  pub refusal_printed : (n : ℕ) (text : List ℕ) → walk_refusal m s' t' ≡ n → (n ≡ 0 → ⊥) → text ≡ written (end_line 0 n)
-      → WalkPrints m s t text
-  refusal_printed n text r some e = same_walk text (refused_walk m s' t' n text r some e)
+  pub refusal_printed : (r : Refusal) → walk_refusal m s' t' ≡ number_of r → WalkPrints m s t (text_of (Refusing r))
+  refusal_printed r is = same_walk (text_of (Refusing r)) (refused_walk m s' t' r is)
 
 -- ---- with nothing left
-pub done_text : (r : Rest) → r.done ≡ true → text_of r ≡ []
+pub done_text : (r : Rest) → is_done r ≡ true → text_of r ≡ []
 unfolding text_of
-done_text r e = rw e
+done_text (Walking w) e = absurd (false≢true e)
+done_text (Refusing r) e = absurd (false≢true e)
+done_text Done e = refl
 
 -- where a block is not done and there is room, the next part is not empty: filling from the front of a buffer of 40 bytes or more goes on
 pub part_goes_on : {l l' : List ℕ} {at next : ℕ} {whole rest : List ℕ} (d : Bool) → Part l at whole next rest l' → d ≡ false

@@ -14,12 +14,13 @@ use Rattle.numbers.specs.Told.{choose}
 use Rattle.lines.specs.Carry.{Held, held, fresh, has_begun, keep, Run, run_from}
 use Rattle.lines.specs.Fields.{newline, span, field_end}
 use Rattle.lines.specs.Lines.{has_room}
-use Rattle.lines.specs.declared.record.Asked.{Asked}
+use Rattle.std.specs.Prelude.{Option}
+use Rattle.lines.specs.declared.record.Walk.{Walk as Record}
 use Rattle.lines.proofs.Cutting.{go_on, run_joined, run_some, cut_at_newline, span_at_most, nothing_kept}
 use Rattle.numbers.proofs.Stores.{stored_more, stored_length}
 use Rattle.listing.specs.Listing.{Prints, AllPrint}
 use Rattle.listing.specs.Asks.{asks}
-use Rattle.listing.specs.Block.{text_of, Part}
+use Rattle.listing.specs.Block.{is_done, text_of, Part}
 use Rattle.listing.specs.Printer.{Takes, Leaves, Puts, is_through, last_run, Ends}
 use Rattle.listing.specs.declared.printer.Printer.{Printer}
 use Rattle.listing.specs.declared.printer.Reached.{Reached}
@@ -27,12 +28,12 @@ use Rattle.listing.proofs.Asking.{line_asks}
 use Rattle.listing.proofs.Blocks.{done_text, part_none, part_goes_on}
 
 -- ---- what lines print, one behind the other
-pub both_print : (as' bs : List Asked) (t u : List ℕ) → AllPrint as' t → AllPrint bs u → AllPrint (as' ++ bs) (t ++ u)
+pub both_print : (as' bs : List (Option Record)) (t u : List ℕ) → AllPrint as' t → AllPrint bs u → AllPrint (as' ++ bs) (t ++ u)
 both_print [] bs t u a b = subst (λ (s : List ℕ). AllPrint bs (s ++ u)) (sym a) b
 both_print (x ∷ as') bs t u a b =
     (a.0, a.1 ++ u, ap (λ (s : List ℕ). s ++ u) a.2 ∙ append_assoc a.0 a.1 u, a.3, both_print as' bs a.1 u a.4 b)
 
-pub one_prints : (a : Asked) (t : List ℕ) → Prints a t → AllPrint (a ∷ []) t
+pub one_prints : (a : Option Record) (t : List ℕ) → Prints a t → AllPrint (a ∷ []) t
 one_prints a t p = (t, [], sym (append-nil t), p, refl)
 
 -- bytes behind bytes: the second ones go on with what is kept of the first
@@ -50,7 +51,7 @@ takes_more h a b q r x y =
       kept = y.kept ∙ sym (ap (λ (s : Run). s.begun) run ∙ ap (λ (s : Run). s.begun) again);
       blocks = x.blocks ++ y.blocks;
       print =
-          subst (λ (as' : List Asked). AllPrint as' (x.blocks ++ y.blocks)) (sym lines)
+          subst (λ (as' : List (Option Record)). AllPrint as' (x.blocks ++ y.blocks)) (sym lines)
           (both_print (map asks (run_from h a).finished) (map asks (run_from (held q.carry) b).finished) x.blocks y.blocks
           x.print y.print);
     }
@@ -90,7 +91,7 @@ module _ (part : List ℕ) (p : Printer) (from end : ℕ) (q : Reached) (is : en
           splits.1,
         )
 
-    pub reads_line : p.rest.done ≡ true → length (held p.carry).text ≤ 128 → end < length part → q.from ≡ end + 1
+    pub reads_line : (is_done p.rest) ≡ true → length (held p.carry).text ≤ 128 → end < length part → q.from ≡ end + 1
         → held q.printer.carry ≡ fresh
         → Prints (asks (keep (held p.carry) (take (end - from) here))) (text_of q.printer.rest) → Leaves part p from q
     reads_line done short ends to empty prints =
@@ -105,7 +106,7 @@ module _ (part : List ℕ) (p : Printer) (from end : ℕ) (q : Reached) (is : en
               kept = empty ∙ sym run.1;
               blocks = text;
               print =
-                  subst (λ (as' : List Asked). AllPrint as' text) (sym run.0)
+                  subst (λ (as' : List (Option Record)). AllPrint as' text) (sym run.0)
                   (one_prints (asks (keep (held p.carry) before_newline)) text
                   (subst (λ (k : ℕ). Prints (asks (keep (held p.carry) (take k here))) text) counted prints));
             };
@@ -144,27 +145,27 @@ module _ (p : Printer) where
   abbrev last : Bool → Run
   last begun = record { finished = choose begun (held p.carry ∷ []) []; begun = fresh }
 
-  last_is : (d b : Bool) → p.rest.done ≡ d → has_begun (held p.carry) ≡ b → choose d (last b) unfinished ≡ last_run p
+  last_is : (d b : Bool) → (is_done p.rest) ≡ d → has_begun (held p.carry) ≡ b → choose d (last b) unfinished ≡ last_run p
   unfolding last_run
   last_is d b e f =
       ap (λ (x : Bool). choose x (last b) unfinished) (sym e)
-      ∙ ap (λ (x : Bool). choose p.rest.done (last x) unfinished) (sym f)
+      ∙ ap (λ (x : Bool). choose (is_done p.rest) (last x) unfinished) (sym f)
 
   -- told of a run that is the last
   abbrev TakesAll : Run → Printer → Type 0
   TakesAll run r = (x : Takes run r) × (text_of r.rest ≡ text_of p.rest ++ x.blocks)
 
-  pub ends_later : p.rest.done ≡ false → Ends p p
+  pub ends_later : (is_done p.rest) ≡ false → Ends p p
   ends_later going =
       subst (λ (run : Run). TakesAll run p) (last_is false (has_begun (held p.carry)) going refl)
       (record { kept = refl; blocks = []; print = refl }, sym (append-nil (text_of p.rest)))
 
-  pub ends_nothing : p.rest.done ≡ true → has_begun (held p.carry) ≡ false → Ends p p
+  pub ends_nothing : (is_done p.rest) ≡ true → has_begun (held p.carry) ≡ false → Ends p p
   ends_nothing done none =
       subst (λ (run : Run). TakesAll run p) (last_is true false done none)
       (record { kept = nothing_kept (held p.carry) none; blocks = []; print = refl }, sym (append-nil (text_of p.rest)))
 
-  pub ends_line : (r : Printer) → p.rest.done ≡ true → has_begun (held p.carry) ≡ true → held r.carry ≡ fresh
+  pub ends_line : (r : Printer) → (is_done p.rest) ≡ true → has_begun (held p.carry) ≡ true → held r.carry ≡ fresh
       → Prints (asks (held p.carry)) (text_of r.rest) → Ends p r
   ends_line r done begun empty prints =
       subst (λ (run : Run). TakesAll run r) (last_is true true done begun) (
@@ -259,10 +260,10 @@ is_ready true false room going full = (refl, refl)
 is_ready false t room going full = absurd (false≢true (sym full ∙ going))
 
 pub ready : (part buf : List ℕ) (q : Reached) (through goes : Bool) → through ≡ is_through part q
-    → goes ≡ (not through && has_room buf q.at) → goes ≡ true → (not q.printer.rest.done && has_room buf q.at) ≡ false
-    → (q.printer.rest.done ≡ true) × (q.from < length part)
+    → goes ≡ (not through && has_room buf q.at) → goes ≡ true → (not (is_done q.printer.rest) && has_room buf q.at) ≡ false
+    → ((is_done q.printer.rest) ≡ true) × (q.from < length part)
 ready part buf q through goes is so going full =
-    let r = is_ready q.printer.rest.done (leb (length part) q.from) (has_room buf q.at)
+    let r = is_ready (is_done q.printer.rest) (leb (length part) q.from) (has_room buf q.at)
     (ap (λ (t : Bool). not t && has_room buf q.at) (sym is) ∙ sym so ∙ going) full in
     (r.0, leb-false (length part) q.from r.1)
 
@@ -286,7 +287,7 @@ none_second [] b e = e
 none_second (x ∷ a) b e = cc
 
 pub used_up_gives_back : {part before after : List ℕ} {p : Printer} {from at : ℕ} (q : Reached) → Puts part before p from at after q
-    → length part ≤ from → p.rest.done ≡ true
+    → length part ≤ from → (is_done p.rest) ≡ true
     → (q.from ≡ from) × (q.at ≡ at) × (after ≡ before) × (held q.printer.carry ≡ held p.carry) × (text_of q.printer.rest ≡ [])
 unfolding run_from
 used_up_gives_back {part} {before} {after} {p} {from} {at} q x used done =

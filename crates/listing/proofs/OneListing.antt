@@ -13,8 +13,9 @@ use Rattle.lines.specs.Carry.{held, keep, fresh, joined, lines_from, input_lines
 use Rattle.lines.specs.Lines.{written}
 use Rattle.lines.specs.Record.{record_of}
 use Rattle.lines.specs.declared.listed.Line.TheVariants.{Header, Refused}
-use Rattle.lines.specs.declared.record.Asked.{Asked}
-use Rattle.lines.specs.declared.record.Asked.TheVariants.{Record, NoRecord}
+use Rattle.std.specs.Prelude.{Option}
+use Rattle.lines.specs.declared.record.Walk.{Walk as Record}
+use Rattle.std.specs.Prelude.{Some, None}
 use Rattle.listing.specs.Listing.{walk_block, WalkPrints, Prints, AllPrint, listing_version, Listing}
 use Rattle.listing.specs.Printer.{PrintsSoFar, PrintsParts}
 use Rattle.listing.specs.declared.printer.Printer.{Printer}
@@ -33,11 +34,11 @@ one_walk m s t (suc n) x y is a b =
     some : suc n ≡ 0 → ⊥
     some e = omega arith
 
-one_block : (a : Asked) (x y : List ℕ) → Prints a x → Prints a y → x ≡ y
-one_block (Record w) x y p q = one_walk _ _ _ (walk_refusal _ _ _) x y refl p q
-one_block NoRecord x y p q = p ∙ sym q
+one_block : (a : Option Record) (x y : List ℕ) → Prints a x → Prints a y → x ≡ y
+one_block (Some w) x y p q = one_walk _ _ _ (walk_refusal _ _ _) x y refl p q
+one_block None x y p q = p ∙ sym q
 
-pub one_text : (as' : List Asked) (x y : List ℕ) → AllPrint as' x → AllPrint as' y → x ≡ y
+pub one_text : (as' : List (Option Record)) (x y : List ℕ) → AllPrint as' x → AllPrint as' y → x ≡ y
 one_text [] x y p q = p ∙ sym q
 one_text (a ∷ as') x y p q =
     p.2

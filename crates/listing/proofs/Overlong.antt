@@ -11,8 +11,9 @@ use Rattle.lines.specs.Fields.{newline, span}
 use Rattle.lines.specs.Lines.{written}
 use Rattle.lines.specs.Record.{record_of}
 use Rattle.lines.specs.declared.listed.Line.TheVariants.{Header, Refused}
-use Rattle.lines.specs.declared.record.Asked.{Asked}
-use Rattle.lines.specs.declared.record.Asked.TheVariants.{NoRecord}
+use Rattle.std.specs.Prelude.{Option}
+use Rattle.lines.specs.declared.record.Walk.{Walk as Record}
+use Rattle.std.specs.Prelude.{None}
 use Rattle.lines.proofs.Cutting.{keep_long, lines_piece, lines_joined, lines_newline}
 use Rattle.listing.specs.Listing.{AllPrint, listing_version, Listing}
 use Rattle.listing.specs.Printer.{PrintsSoFar, PrintsParts}
@@ -20,7 +21,7 @@ use Rattle.listing.specs.declared.printer.Printer.{Printer}
 use Rattle.listing.proofs.AnyCut.{answered_so_far, cut_anywhere}
 
 -- what two lists of lines print, taken apart
-parted_print : (as' bs : List Asked) (text : List ℕ) → AllPrint (as' ++ bs) text
+parted_print : (as' bs : List (Option Record)) (text : List ℕ) → AllPrint (as' ++ bs) text
     → (t : List ℕ) × (u : List ℕ) × (text ≡ t ++ u) × AllPrint as' t × AllPrint bs u
 parted_print [] bs text x = ([], text, refl, refl, x)
 parted_print (a ∷ as') bs text x =
@@ -37,7 +38,7 @@ module _ (before l : List ℕ) (whole : (lines_from [] before).begun ≡ []) (fr
   abbrev earlier : List (List ℕ)
   earlier = (lines_from [] before).finished
 
-  no_record : record_of l ≡ NoRecord
+  no_record : record_of l ≡ None
   unfolding record_of
   no_record = rw (ne_eqb (length l) 64 (λ e. omega arith))
 
@@ -77,13 +78,13 @@ module _ (before l : List ℕ) (whole : (lines_from [] before).begun ≡ []) (fr
   with_last_lem xs ys (b ∷ s) = append_assoc xs (l ∷ ys) ((b ∷ s) ∷ [])
 
   asked_once : (s : List ℕ) → map record_of (input_lines (before ++ (l ++ (newline ∷ s))))
-      ≡ map record_of earlier ++ (NoRecord ∷ map record_of (input_lines s))
+      ≡ map record_of earlier ++ (None ∷ map record_of (input_lines s))
   asked_once s =
       ap (λ (r : Lines). map record_of (with_last r.finished r.begun))
       (behind (newline ∷ s) ∙ ap (λ (r : Lines). record { finished = earlier ++ r.finished; begun = r.begun }) (lines_newline l s))
       ∙ ap (map record_of) (with_last_lem earlier (lines_from [] s).finished (lines_from [] s).begun)
       ∙ map_app record_of earlier (l ∷ input_lines s)
-      ∙ ap (λ (a : Asked). map record_of earlier ++ (a ∷ map record_of (input_lines s))) no_record
+      ∙ ap (λ (a : Option Record). map record_of earlier ++ (a ∷ map record_of (input_lines s))) no_record
 
   -- and at the end of the input
   abbrev last : List (List ℕ)
@@ -93,20 +94,20 @@ module _ (before l : List ℕ) (whole : (lines_from [] before).begun ≡ []) (fr
   is_last [] e = absurd (omega (arith, ap length e))
   is_last (b ∷ k) e = ap (λ (x : List ℕ). earlier ++ (x ∷ [])) (sym e)
 
-  asked_last : map record_of (input_lines (before ++ l)) ≡ map record_of earlier ++ (NoRecord ∷ [])
+  asked_last : map record_of (input_lines (before ++ l)) ≡ map record_of earlier ++ (None ∷ [])
   asked_last =
       ap (λ (r : Lines). map record_of (with_last r.finished r.begun)) unfinished
       ∙ ap (map record_of) (is_last l refl)
       ∙ map_app record_of earlier (l ∷ [])
-      ∙ ap (λ (a : Asked). map record_of earlier ++ (a ∷ [])) no_record
+      ∙ ap (λ (a : Option Record). map record_of earlier ++ (a ∷ [])) no_record
 
   -- one refusal, between what is printed before it and what is printed behind it
-  between : (input text : List ℕ) (later : List Asked) → Listing input text
-      → map record_of (input_lines input) ≡ map record_of earlier ++ (NoRecord ∷ later)
+  between : (input text : List ℕ) (later : List (Option Record)) → Listing input text
+      → map record_of (input_lines input) ≡ map record_of earlier ++ (None ∷ later)
       → (t : List ℕ) × (u : List ℕ) × (text ≡ t ++ (written (Refused 7) ++ u)) × Listing before t × AllPrint later u
   between input text later x lines =
-      let all = subst (λ (as' : List Asked). AllPrint as' x.0) lines x.2 in
-      let y = parted_print (map record_of earlier) (NoRecord ∷ later) x.0 all in
+      let all = subst (λ (as' : List (Option Record)). AllPrint as' x.0) lines x.2 in
+      let y = parted_print (map record_of earlier) (None ∷ later) x.0 all in
       let header = written (Header listing_version) in (
         header ++ y.0,
         y.4.1,

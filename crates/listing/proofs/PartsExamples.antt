@@ -8,12 +8,13 @@ use Rattle.lines.specs.Digits.{digit, numeral, hex, value_of, push, push_all, he
 use Rattle.lines.specs.Fields.{newline, parted}
 use Rattle.lines.specs.Parts.{tabbed, tabbeds, all_good, bits_of}
 use Rattle.lines.specs.Record.{walk_line, walk_of, record_of}
-use Rattle.lines.specs.declared.record.Asked.{Asked}
-use Rattle.lines.specs.declared.record.Asked.TheVariants.{Record, NoRecord}
+use Rattle.std.specs.Prelude.{Option}
+use Rattle.lines.specs.declared.record.Walk.{Walk as Record}
+use Rattle.std.specs.Prelude.{Some, None}
 use Rattle.listing.specs.Asks.{asks}
 
 -- what each part asks for, the end of the input last
-unfoldable pub by_part : Held → List (List ℕ) → List (List Asked)
+unfoldable pub by_part : Held → List (List ℕ) → List (List (Option Record))
 by_part h [] = map asks (choose (has_begun h) (h ∷ []) []) ∷ []
 by_part h (part ∷ parts) = map asks (run_from h part).finished ∷ by_part (run_from h part).begun parts
 
@@ -24,11 +25,11 @@ patterns = 0x3e00_0000 ∷ 0 ∷ 0 ∷ 0 ∷ 0x3e80_0000 ∷ 0 ∷ 0 ∷ []
 abbrev pub w : List ℕ
 w = walk_line patterns
 
-abbrev pub asked : List Asked
-asked = Record (walk_of patterns) ∷ []
+abbrev pub asked : List (Option Record)
+asked = Some (walk_of patterns) ∷ []
 
-abbrev pub refused : List Asked
-refused = NoRecord ∷ []
+abbrev pub refused : List (Option Record)
+refused = None ∷ []
 
 abbrev pub n : List ℕ
 n = newline ∷ []
@@ -51,7 +52,7 @@ unfolding by_part run_from keep has_begun asks record_of walk_line parted hex nu
 short_parts = refl
 
 -- a record that comes byte by byte
-abbrev pub nothings : ℕ → List (List Asked) → List (List Asked)
+abbrev pub nothings : ℕ → List (List (Option Record)) → List (List (Option Record))
 nothings zero rest = rest
 nothings (suc k) rest = [] ∷ nothings k rest
 

@@ -23,7 +23,7 @@ use Rattle.lines.specs.Lines.{body, Digited, Listable, count_digits}
 use Rattle.lines.specs.Reading.{line_of}
 use Rattle.lines.specs.declared.listed.Line.{Line}
 use Rattle.lines.specs.declared.listed.Line.TheVariants.{Header, Arrived, Refused}
-use Rattle.lines.specs.declared.listed.Found.TheVariants.{Known}
+use Rattle.std.specs.Prelude.{Some}
 use Rattle.lines.proofs.Decimal.{length_at_most}
 use Rattle.lines.proofs.Listings.{line_back}
 use Rattle.listing.specs.Listing.{step, listing_version}
@@ -32,7 +32,7 @@ use Rattle.listing.specs.Listing.{step, listing_version}
 abbrev pub OfVersion : Line → Type 0
 OfVersion = Listable (count_digits listing_version)
 
-pub read_back : (line : Line) → OfVersion line → line_of (count_digits listing_version) (body line) ≡ Known line
+pub read_back : (line : Line) → OfVersion line → line_of (count_digits listing_version) (body line) ≡ Some line
 read_back = line_back (count_digits listing_version)
 
 -- ---- numbers below a million, floats of 32 bits

@@ -10,8 +10,9 @@ use Rattle.lines.specs.Lines.{written}
 use Rattle.lines.specs.declared.listed.Line.{Line}
 use Rattle.lines.specs.declared.listed.Line.TheVariants.{Header, Move, Arrived, Refused}
 use Rattle.lines.specs.declared.record.Place.{Place}
-use Rattle.lines.specs.declared.record.Asked.{Asked}
-use Rattle.lines.specs.declared.record.Asked.TheVariants.{Record, NoRecord}
+use Rattle.std.specs.Prelude.{Option}
+use Rattle.lines.specs.declared.record.Walk.{Walk as Record}
+use Rattle.std.specs.Prelude.{Some, None}
 use Rattle.lines.specs.Carry.{input_lines}
 
 -- a record's place as a point
@@ -38,12 +39,12 @@ WalkPrints m s t text =
     × (text ≡ choose (walk_refusal m s t == 0) (walk_block m s t n) (written (Refused (walk_refusal m s t))))
     × (walk_refusal m s t ≡ 0 → Walk m s t n)
 
-abbrev pub Prints : Asked → List ℕ → Type 0
-Prints (Record w) text = WalkPrints w.max_move (point_at w.start) (point_at w.target) text
-Prints NoRecord text = text ≡ written (Refused 7)
+abbrev pub Prints : Option Record → List ℕ → Type 0
+Prints (Some w) text = WalkPrints w.max_move (point_at w.start) (point_at w.target) text
+Prints None text = text ≡ written (Refused 7)
 
 -- what each line prints, joined
-abbrev pub AllPrint : List Asked → List ℕ → Type 0
+abbrev pub AllPrint : List (Option Record) → List ℕ → Type 0
 AllPrint [] text = text ≡ []
 AllPrint (a ∷ as') text = (first : List ℕ) × (others : List ℕ) × (text ≡ first ++ others) × Prints a first × AllPrint as' others
 

@@ -8,7 +8,7 @@ use Rattle.lines.specs.Lines.{written}
 use Rattle.lines.specs.declared.listed.Line.TheVariants.{Header}
 use Rattle.listing.specs.Listing.{AllPrint, listing_version}
 use Rattle.listing.specs.Asks.{asks}
-use Rattle.listing.specs.Block.{text_of, Part}
+use Rattle.listing.specs.Block.{is_done, text_of, Part}
 use Rattle.listing.specs.declared.printer.Printer.{Printer}
 use Rattle.listing.specs.declared.printer.Reached.{Reached}
 
@@ -16,7 +16,7 @@ use Rattle.listing.specs.declared.printer.Reached.{Reached}
 -- nothing is read, nothing is left to print
 pub record Fresh (p : Printer) : Type 0 where
   pub nothing : held p.carry ≡ fresh
-  pub idle : p.rest.done ≡ true
+  pub idle : (is_done p.rest) ≡ true
 
 -- lines are finished and one has begun: what is kept of it, and what the finished ones print
 pub record Takes (run : Run) (r : Printer) : Type 0 where
@@ -42,12 +42,12 @@ pub record Puts (part before : List ℕ) (p : Printer) (from at : ℕ) (after : 
 
 -- whether a part is used up and nothing is left to print
 abbrev pub is_through : List ℕ → Reached → Bool
-is_through part q = q.printer.rest.done && nat_le (length part) q.from
+is_through part q = (is_done q.printer.rest) && nat_le (length part) q.from
 
 -- "at its newline or at the input's end": there the unfinished line is a line, if one has begun. While a block is not done, all stays
 unfoldable pub last_run : Printer → Run
 last_run p =
-    choose p.rest.done
+    choose (is_done p.rest)
     (record { finished = choose (has_begun (held p.carry)) (held p.carry ∷ []) []; begun = fresh })
     (record { finished = []; begun = held p.carry })
 
@@ -66,7 +66,7 @@ pub record Call (part : List ℕ) (p : Printer) (from : ℕ) (text : List ℕ) (
 
 -- so many calls, until the part is used up and nothing is left to print: what they store, joined
 abbrev pub Through : ℕ → List ℕ → Printer → ℕ → List ℕ → Printer → Type 0
-Through zero part p from text r = (p ≡ r) × (text ≡ []) × (p.rest.done ≡ true) × (length part ≤ from)
+Through zero part p from text r = (p ≡ r) × (text ≡ []) × ((is_done p.rest) ≡ true) × (length part ≤ from)
 Through (suc calls) part p from text r =
     (q : Reached) × (first : List ℕ) × (others : List ℕ) × (text ≡ first ++ others) × Call part p from first q
     × Through calls part q.printer q.from others r

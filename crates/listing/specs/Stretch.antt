@@ -1,5 +1,5 @@
 -- How ours stores what is left to print and goes through the lines that lie whole in a part.
-use Rattle.std.specs.Prelude.{◌≡◌, ℕ, ◌<◌, ◌≤◌, true, false, not, ◌&&◌, List, length}
+use Rattle.std.specs.Prelude.{◌≡◌, ℕ, ◌+◌, ◌<◌, ◌≤◌, false, List, length, Option, IfSome}
 use Rattle.lines.specs.Carry.{held, fresh}
 use Rattle.lines.specs.Lines.{has_room}
 use Rattle.lines.specs.declared.carry.Carry.{Carry}
@@ -11,19 +11,24 @@ use Rattle.listing.specs.declared.stretch.Stretch.{Stretch}
 abbrev pub reached : Carry → Stretch → Reached
 reached c g = record { printer = record { carry = c; rest = g.rest }; from = g.from; at = g.at }
 
--- from one place to another: what a call does, with a row of which nothing is kept, unless that is said
-pub record Goes (part before : List ℕ) (g : Stretch) (after : List ℕ) (h : Stretch) : Type 0 where
-  pub same : h.kept ≡ g.kept
-  pub puts : (c : Carry) → (g.kept ≡ false → held c ≡ fresh)
-      → Puts part before (reached c g).printer g.from g.at after (reached c h)
+-- what is left is stored as far as there is room, whatever part and row it is
+abbrev pub Stores : List ℕ → Stretch → List ℕ → Stretch → Type 0
+Stores before g after h =
+    (h.from ≡ g.from) × ((part : List ℕ) (c : Carry) → Puts part before (reached c g).printer g.from g.at after (reached c h))
+
+-- from one place to another: what a call does, with a row of which nothing is kept
+abbrev pub Goes : List ℕ → List ℕ → Stretch → List ℕ → Stretch → Type 0
+Goes part before g after h = (c : Carry) → held c ≡ fresh → Puts part before (reached c g).printer g.from g.at after (reached c h)
 
 -- a buffer without a line's room changes nothing
 abbrev pub Unmoved : List ℕ → Stretch → Stretch → Type 0
-Unmoved before g h = has_room before g.at ≡ false → (c : Carry) → reached c h ≡ reached c g
+Unmoved before g h = has_room before g.at ≡ false → h ≡ g
 
--- one line more, or it stops: then nothing is left to print, or there is no room
-pub record Onward (part before : List ℕ) (g : Stretch) (after : List ℕ) (h : Stretch) : Type 0 where
-  pub goes : Goes part before g after h
-  pub nearer : h.stopped ≡ false → (g.from < h.from) × (h.from ≤ length part)
-  pub full : h.stopped ≡ true → (not h.rest.done && has_room after h.at) ≡ false
-  pub unmoved : Unmoved before g h
+-- one line is read where nothing is left to print and a buffer of n bytes has room: nothing of it is stored yet
+pub record Read (part : List ℕ) (n : ℕ) (g h : Stretch) : Type 0 where
+  pub goes : (buf : List ℕ) → Goes part buf g buf h
+  pub nearer : (g.from < h.from) × (h.from ≤ length part)
+  pub room : g.at + 40 ≤ n
+
+abbrev pub ReadsOn : List ℕ → ℕ → Stretch → Option Stretch → Type 0
+ReadsOn part n g next = IfSome next (λ h. Read part n g h)

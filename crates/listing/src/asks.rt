@@ -4,24 +4,22 @@ ghost use Rattle.lines.specs.Carry.{held, keep};
 ghost use Rattle.listing.specs.Asks.{asks};
 
 use lines::carry::Carry;
-use lines::record::Asked;
+use lines::record::Walk;
 use lines::{carry, record};
 
-// The record of a line that was carried.
-pub fn asked(c: Carry) -> Asked
+/// The record of a line that was carried, `None` where it is no record.
+#[tactic(auto, unfolding(crate::specs::Asks::asks))]
+pub fn asked(c: Carry) -> Option<Walk>
     ensures { result ≡ asks (held c) }
 {
-    if c.overlong {
-        return Asked::NoRecord;
+    match c {
+        Carry::Whole(front) => record::record_of(front.as_slice()),
+        Carry::Overlong => None,
     }
-    let n = carry::kept(c.len);
-    let bytes = c.bytes;
-    let z: usize = 0;
-    record::record_of(&bytes[z..n])
 }
 
-// The record of the unfinished line with the bytes that finish it. Where nothing is kept they are read as they stand.
-pub fn finished(c: Carry, s: &[u8]) -> Asked
+/// The record of the unfinished line with the bytes that finish it. Where nothing is kept they are read as they stand.
+pub fn finished(c: Carry, s: &[u8]) -> Option<Walk>
     ensures { result ≡ asks (keep (held c) s.now) }
 {
     if carry::has_begun(c) {

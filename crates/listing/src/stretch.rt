@@ -1,73 +1,60 @@
 // What is left to print is stored, and the lines that lie whole in a part are read, none of whose bytes is copied.
-ghost use Rattle.std.specs.Prelude.{◌≡◌, true, false, not, ◌&&◌};
+ghost use Rattle.std.specs.Prelude.{◌≡◌, false, not, ◌&&◌};
 ghost use Rattle.lines.specs.Lines.{has_room};
-ghost use Rattle.listing.specs.Stretch.{Goes, Onward, Unmoved};
+ghost use Rattle.listing.specs.Block.{is_done};
+ghost use Rattle.listing.specs.Stretch.{Goes, ReadsOn, Stores, Unmoved};
 
 use crate::block;
-use crate::block::{Filled, Rest};
+use crate::block::Rest;
 use lines::{fields, record};
 
-// How far it has come: what is left to print, the places behind what is read of the part and behind what is stored in the buffer, whether
-// something of a line is kept, so that no line lies whole, and whether it goes no further: no whole line is left, or no room.
-#[derive(Clone, Copy)]
+// How far it has come: what is left to print, the places behind what is read of the part and behind what is stored in the buffer.
+#[derive(Clone, Copy, Debug, PartialEq)]
 pub(crate) struct Stretch {
     pub rest: Rest,
     pub from: usize,
     pub at: usize,
-    pub kept: bool,
-    pub stopped: bool,
 }
 
-// Behind what a fill has stored, where it goes no further.
-fn stopped(f: Filled, from: usize, kept: bool) -> Stretch
-    ensures { result ≡ record { rest = f.rest; from = from; at = f.at; kept = kept; stopped = true } }
-{
-    let rest = f.rest;
-    Stretch {
-        rest,
-        from,
-        at: f.at,
-        kept,
-        stopped: true,
-    }
-}
-
-// What is left is stored as far as there is room. If nothing is left then, and there is room, one line more is read.
-fn onward(buf: &mut [u8], part: &[u8], g: Stretch) -> Stretch
-    ensures { Onward part.now buf.old g buf.new result }
-{
-    let from = g.from;
-    let kept = g.kept;
-    let f = block::fill(buf, g.at, g.rest);
-    if kept {
-        return stopped(f, from, kept);
-    }
-    if !block::goes_on(!f.rest.done, buf.len(), f.at) {
-        return stopped(f, from, kept);
-    }
-    let end = fields::field_end(part, from, b'\n');
-    if part.len() <= end {
-        return stopped(f, from, kept);
-    }
-    let next = end + 1;
-    Stretch {
-        rest: block::whole(record::record_of(&part[from..end])),
-        from: next,
-        at: f.at,
-        kept,
-        stopped: false,
-    }
-}
-
-// As far as it goes.
-pub(crate) fn gone(buf: &mut [u8], part: &[u8], g: Stretch) -> Stretch
-    ensures { Goes part.now buf.old g buf.new result
-        × (g.stopped ≡ false → (not result.rest.done && has_room buf.new result.at) ≡ false)
+// What is left is stored as far as there is room.
+pub(crate) fn filled(buf: &mut [u8], g: Stretch) -> Stretch
+    ensures { Stores buf.old g buf.new result × ((not (is_done result.rest) && has_room buf.new result.at) ≡ false)
         × Unmoved buf.old g result }
 {
-    let mut g = g;
-    while !g.stopped {
-        g = onward(buf, part, g);
+    let f = block::fill(buf, g.at, g.rest);
+    Stretch {
+        rest: f.rest,
+        from: g.from,
+        at: f.at,
+    }
+}
+
+// The next line that lies whole in the part, where nothing is left to print and a buffer of n bytes has room.
+fn line_read(part: &[u8], n: usize, g: Stretch) -> Option<Stretch>
+    ensures { ReadsOn part.now n g result }
+{
+    if !block::goes_on(!g.rest.is_done(), n, g.at) {
+        return None;
+    }
+    let end = fields::field_end(part, g.from, b'\n');
+    if part.len() <= end {
+        return None;
+    }
+    Some(Stretch {
+        rest: block::whole(record::record_of(&part[g.from..end])),
+        from: end + 1,
+        at: g.at,
+    })
+}
+
+// As far as it goes, where nothing is kept of a line.
+pub(crate) fn gone(buf: &mut [u8], part: &[u8], g: Stretch) -> Stretch
+    ensures { Goes part.now buf.old g buf.new result × ((not (is_done result.rest) && has_room buf.new result.at) ≡ false)
+        × Unmoved buf.old g result }
+{
+    let mut g = filled(buf, g);
+    while let Some(next) = line_read(part, buf.len(), g) {
+        g = filled(buf, next);
     }
     g
 }

@@ -8,19 +8,18 @@ use Rattle.numbers.specs.Told.{choose}
 use Rattle.legs.specs.Legs.{Leg, point, six_points, some}
 use Rattle.legs.proofs.Laws.{point_of_six}
 use Rattle.legs.specs.declared.Point.{Point}
-use Rattle.legs.specs.declared.Points.{Points}
-use Rattle.moves.specs.Moving.{move_towards, point_of, has_moved, together, move_points_towards, points_of, one_moved}
-use Rattle.moves.specs.declared.MoveStep.{MoveStep}
-use Rattle.moves.specs.declared.unchecked.PointsStep.TheVariants.{Moved as PointsMoved, Arrived as PointsArrived}
+use Rattle.legs.specs.Legs.{Points}
+use Rattle.moves.specs.Moving.{MoveStep, move_towards, place_of, point_of, has_moved, together, move_points_towards, points_of, one_moved}
+use Rattle.moves.specs.declared.Step.TheVariants.{Moved, Arrived}
 
 -- the flag does not change the points
-same_points : (b : Bool) (p : Points) → points_of (choose b (PointsMoved p) (PointsArrived p)) ≡ p
-unfolding points_of
+same_points : (b : Bool) (p : Points) → points_of (choose b (Moved p) (Arrived p)) ≡ p
+unfolding place_of
 same_points true p = refl
 same_points false p = refl
 
-same_flag : (b : Bool) (p : Points) → one_moved (choose b (PointsMoved p) (PointsArrived p)) ≡ b
-unfolding one_moved
+same_flag : (b : Bool) (p : Points) → one_moved (choose b (Moved p) (Arrived p)) ≡ b
+unfolding has_moved
 same_flag true p = refl
 same_flag false p = refl
 

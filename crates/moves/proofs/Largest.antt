@@ -11,7 +11,7 @@ use lib.Ieee.Exact.{HasValue}
 use Rattle.numbers.specs.Told.{choose}
 use Rattle.legs.specs.Legs.{Leg, left_front, right_front, left_middle, right_middle, left_rear, right_rear, row, point}
 use Rattle.legs.specs.declared.Point.{Point}
-use Rattle.legs.specs.declared.Points.{Points}
+use Rattle.legs.specs.Legs.{Points}
 use Rattle.moves.specs.Distance.{apart², square_sum, horizontal_sum, distance, horizontal_distance}
 use Rattle.moves.specs.Distance.{largest_from, largest, longest_distance, max_horizontal_distance}
 use Rattle.numbers.specs.Finite.{greater}

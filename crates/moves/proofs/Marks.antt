@@ -4,17 +4,15 @@ use mathlib.Core.Path.{refl, ap, ◌∙◌}
 use lib.Ieee.{Float}
 use Rattle.legs.specs.Legs.{Leg, points, lifted, marked}
 use Rattle.legs.proofs.Laws.{lifted_of_marked}
-use Rattle.legs.specs.declared.Points.{Points}
-use Rattle.legs.specs.declared.Feet.{Feet}
-use Rattle.moves.specs.Moving.{move_points_towards, points_of, keeping, move_feet_towards, feet_of}
-use Rattle.moves.specs.declared.unchecked.PointsStep.{PointsStep}
-use Rattle.moves.specs.declared.unchecked.PointsStep.TheVariants.{Moved as PointsMoved, Arrived as PointsArrived}
+use Rattle.legs.specs.Legs.{Feet}
+use Rattle.moves.specs.Moving.{PointsStep, place_of, move_points_towards, points_of, keeping, move_feet_towards, feet_of}
+use Rattle.moves.specs.declared.Step.TheVariants.{Moved, Arrived}
 
 -- a step of points, with marks put on
 feet_kept : (b : Leg → Bool) (s : PointsStep) → feet_of (keeping b s) ≡ marked b (points_of s)
-unfolding feet_of points_of
-feet_kept b (PointsMoved p) = refl
-feet_kept b (PointsArrived p) = refl
+unfolding place_of
+feet_kept b (Moved p) = refl
+feet_kept b (Arrived p) = refl
 
 module _ (last target : Feet) (m : Float) where
   -- the feet of a move: the points' step, with last's marks

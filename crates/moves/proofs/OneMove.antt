@@ -14,12 +14,11 @@ use Rattle.units.proofs.OtherSign.{turned_round}
 use Rattle.roots.specs.Root.{square_root}
 use Rattle.legs.specs.declared.Point.{Point}
 use Rattle.moves.specs.Distance.{same, square, apart², square_sum, distance}
-use Rattle.moves.specs.Moving.{along, nearer, step_at, move_towards}
+use Rattle.moves.specs.Moving.{MoveStep, along, nearer, step_at, move_towards}
 use Rattle.moves.specs.Answers.{told_step}
 use Rattle.moves.specs.Refusals.{move_refusal}
 use Rattle.moves.specs.Entries.{move_told}
-use Rattle.moves.specs.declared.MoveStep.{MoveStep}
-use Rattle.moves.specs.declared.MoveStep.TheVariants.{Moved, Arrived}
+use Rattle.moves.specs.declared.Step.TheVariants.{Moved, Arrived}
 
 -- ---- a square does not show the sign
 square_neg : (x : Float) → square (neg x) ≡ square x

@@ -7,12 +7,12 @@ use Rattle.numbers.specs.Told.{choose}
 use Rattle.numbers.specs.Door.{finite, permits}
 use Rattle.numbers.specs.Limits.{foot_limit, max_move}
 use Rattle.numbers.specs.declared.door.Limit.{Limit}
-use Rattle.numbers.proofs.OnePass.{let_through, kept_out, in_row, both}
+use Rattle.numbers.proofs.OnePass.{FiniteEnds, let_through, kept_out, in_row, both}
 use Rattle.legs.specs.Legs.{finite_point, permitted_point, finite_feet, permitted_feet}
 use Rattle.legs.specs.declared.Point.{Point}
-use Rattle.legs.specs.declared.Feet.{Feet}
+use Rattle.legs.specs.Legs.{Feet}
 use Rattle.legs.proofs.OnePass as legs
-use Rattle.moves.specs.Refusals.{refusal_by, move_refusal, move_feet_refusal, longest_refusal}
+use Rattle.moves.specs.Refusals.{refusal_by, move_refusal, longest_refusal}
 
 -- what a place's row and the third row permit is finite
 module _ {Place : Type 0} (are_finite are_permitted : Place → Bool) (row : Limit) (l t : Place) (m : Float) where
@@ -26,30 +26,18 @@ module _ {Place : Type 0} (are_finite are_permitted : Place → Bool) (row : Lim
       kept_out (are_finite l && are_finite t && finite m) (are_permitted l && are_permitted t && permits row m) p
 
 -- ---- the rows of a move
-longest : (m : Float) → permits max_move m ≡ true → finite m ≡ true
+pub foot_ends : FiniteEnds foot_limit
+unfolding foot_limit finite
+foot_ends = (refl, refl)
+
+pub max_move_ends : FiniteEnds max_move
 unfolding max_move finite
-longest = in_row max_move (refl, refl)
+max_move_ends = (refl, refl)
 
-module _ (l t : Point) (m : Float) where
-  pub move_taken : (permitted_point foot_limit l && permitted_point foot_limit t && permits max_move m) ≡ true → 0 ≡ move_refusal l t m
-  unfolding move_refusal
-  move_taken = taken finite_point (permitted_point foot_limit) max_move l t m legs.in_foot_row longest
-
-  pub move_turned_away : (permitted_point foot_limit l && permitted_point foot_limit t && permits max_move m) ≡ false
-      → choose (finite_point l && finite_point t && finite m) 2 1 ≡ move_refusal l t m
-  unfolding move_refusal
-  move_turned_away = turned_away finite_point (permitted_point foot_limit) max_move l t m
-
-module _ (l t : Feet) (m : Float) where
-  pub move_feet_taken : (permitted_feet foot_limit l && permitted_feet foot_limit t && permits max_move m) ≡ true →
-      0 ≡ move_feet_refusal l t m
-  unfolding move_feet_refusal
-  move_feet_taken = taken finite_feet (permitted_feet foot_limit) max_move l t m legs.in_feet_row longest
-
-  pub move_feet_turned_away : (permitted_feet foot_limit l && permitted_feet foot_limit t && permits max_move m) ≡ false
-      → choose (finite_feet l && finite_feet t && finite m) 2 1 ≡ move_feet_refusal l t m
-  unfolding move_feet_refusal
-  move_feet_turned_away = turned_away finite_feet (permitted_feet foot_limit) max_move l t m
+pub move_taken : (l t : Point) (m : Float)
+    → (permitted_point foot_limit l && permitted_point foot_limit t && permits max_move m) ≡ true → 0 ≡ move_refusal l t m
+unfolding move_refusal
+move_taken l t m = taken finite_point (permitted_point foot_limit) max_move l t m legs.in_foot_row (in_row max_move max_move_ends)
 
 -- ---- of a longest distance
 module _ (a b : Feet) where

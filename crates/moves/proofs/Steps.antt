@@ -5,8 +5,8 @@ use lib.Ieee.{Float, le}
 use Rattle.numbers.specs.Told.{choose}
 use Rattle.legs.specs.declared.Point.{Point}
 use Rattle.moves.specs.Distance.{same, distance}
-use Rattle.moves.specs.Moving.{along, nearer, step_at, move_towards, point_of, has_moved}
-use Rattle.moves.specs.declared.MoveStep.TheVariants.{Moved, Arrived}
+use Rattle.moves.specs.Moving.{along, nearer, step_at, move_towards, place_of, point_of, has_moved}
+use Rattle.moves.specs.declared.Step.TheVariants.{Moved, Arrived}
 
 module _ (l t : Point) (m : Float) where
   pub stands : same l t ≡ true → move_towards l t m ≡ Arrived t
@@ -55,7 +55,7 @@ module _ (l t : Point) (m : Float) where
   -- what holds of the target, and of the point along the way where a step goes along, holds of the point after the step
   pub after_step : (P : Point → Type 0) → P t → (le (distance l t) m ≡ false → P (along (distance l t) m l t))
       → P (point_of (move_towards l t m))
-  unfolding move_towards step_at nearer point_of
+  unfolding move_towards step_at nearer place_of
   after_step P there on = by_place (same l t)
     where
       by_distance : (b : Bool) → le (distance l t) m ≡ b → P (choose b t (along (distance l t) m l t))

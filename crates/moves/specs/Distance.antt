@@ -7,7 +7,7 @@ use Rattle.numbers.specs.Finite.{greater}
 use Rattle.roots.specs.Root.{square_root}
 use Rattle.legs.specs.Legs.{row, point}
 use Rattle.legs.specs.declared.Point.{Point}
-use Rattle.legs.specs.declared.Points.{Points}
+use Rattle.legs.specs.Legs.{Points}
 
 -- what holds of all three coordinates
 abbrev pub Each : (Float → Type 0) → Point → Type 0

@@ -4,7 +4,7 @@ use Rattle.std.specs.Prelude.{Float}
 use Rattle.numbers.specs.Told.{Told, given, answer}
 use Rattle.legs.specs.Legs.{points}
 use Rattle.legs.specs.declared.Point.{Point}
-use Rattle.legs.specs.declared.Feet.{Feet}
+use Rattle.legs.specs.Legs.{Feet}
 use Rattle.moves.specs.Distance.{longest_distance}
 use Rattle.moves.specs.Moving.{move_towards, move_feet_towards}
 use Rattle.moves.specs.Answers.{told_step, told_feet_step}

@@ -4,18 +4,24 @@ use Rattle.std.specs.Prelude.{Float}
 use Rattle.std.specs.Float.{binary32}
 use Rattle.std.specs.Float.Ieee.{add, sub, mul, div, le}
 use Rattle.numbers.specs.Told.{choose}
-use Rattle.legs.specs.Legs.{Leg, left_front, right_front, left_middle, right_middle, left_rear, right_rear}
+use Rattle.legs.specs.Legs.{Leg}
 use Rattle.legs.specs.Legs.{some, point, six_points, points, lifted, marked}
 use Rattle.legs.specs.declared.Point.{Point}
-use Rattle.legs.specs.declared.Points.{Points}
-use Rattle.legs.specs.declared.Feet.{Feet}
+use Rattle.legs.specs.Legs.{Points}
+use Rattle.legs.specs.Legs.{Feet}
 use Rattle.moves.specs.Distance.{same, distance}
-use Rattle.moves.specs.declared.MoveStep.{MoveStep}
-use Rattle.moves.specs.declared.MoveStep.TheVariants.{Moved, Arrived}
-use Rattle.moves.specs.declared.unchecked.PointsStep.{PointsStep}
-use Rattle.moves.specs.declared.unchecked.PointsStep.TheVariants.{Moved as PointsMoved, Arrived as PointsArrived}
-use Rattle.moves.specs.declared.FeetStep.{FeetStep}
-use Rattle.moves.specs.declared.FeetStep.TheVariants.{Moved as FeetMoved, Arrived as FeetArrived}
+use Rattle.moves.specs.declared.Step.{Step}
+use Rattle.moves.specs.declared.Step.TheVariants.{Moved, Arrived}
+
+-- a step of a point or a vector, of six points, of six feet
+abbrev pub MoveStep : Type 0
+MoveStep = Step Point
+
+abbrev pub PointsStep : Type 0
+PointsStep = Step Points
+
+abbrev pub FeetStep : Type 0
+FeetStep = Step Feet
 
 -- "each component is last + ((target - last) / distance) * max move"
 unfoldable pub component : Float → Float → Float → Float → Float
@@ -35,53 +41,44 @@ step_at d l t m = choose (same l t) (Arrived t) (Moved (nearer d l t m))
 unfoldable pub move_towards : Point → Point → Float → MoveStep
 move_towards l t m = step_at (distance l t) l t m
 
--- the point of a step, and whether it moved
-unfoldable pub point_of : MoveStep → Point
-point_of (Moved p) = p
-point_of (Arrived p) = p
+-- the place after a step, and whether it moved
+unfoldable pub place_of : {A : Type 0} → Step A → A
+place_of (Moved p) = p
+place_of (Arrived p) = p
 
-unfoldable pub has_moved : MoveStep → Bool
+unfoldable pub has_moved : {A : Type 0} → Step A → Bool
 has_moved (Moved p) = true
 has_moved (Arrived p) = false
 
--- six single steps of one call, in row order
-abbrev pub by_leg : MoveStep → MoveStep → MoveStep → MoveStep → MoveStep → MoveStep → Leg → MoveStep
-by_leg lf rf lm rm lr rr left_front = lf
-by_leg lf rf lm rm lr rr right_front = rf
-by_leg lf rf lm rm lr rr left_middle = lm
-by_leg lf rf lm rm lr rr right_middle = rm
-by_leg lf rf lm rm lr rr left_rear = lr
-by_leg lf rf lm rm lr rr right_rear = rr
+abbrev pub point_of : MoveStep → Point
+point_of s = place_of s
 
 -- six steps share one flag: whether one of them moved
 abbrev pub together : (Leg → MoveStep) → PointsStep
 together g =
     choose (some (λ l. has_moved (g l)))
-    (PointsMoved (six_points (λ l. point_of (g l))))
-    (PointsArrived (six_points (λ l. point_of (g l))))
+    (Moved (six_points (λ l. point_of (g l))))
+    (Arrived (six_points (λ l. point_of (g l))))
 
 -- "Six feet move as six single ones": their points
 unfoldable pub move_points_towards : Points → Points → Float → PointsStep
 move_points_towards a t m = together (λ l. move_towards (point a l) (point t l) m)
 
 -- the points of a step, and the shared flag
-unfoldable pub points_of : PointsStep → Points
-points_of (PointsMoved p) = p
-points_of (PointsArrived p) = p
+abbrev pub points_of : PointsStep → Points
+points_of s = place_of s
 
-unfoldable pub one_moved : PointsStep → Bool
-one_moved (PointsMoved p) = true
-one_moved (PointsArrived p) = false
+abbrev pub one_moved : PointsStep → Bool
+one_moved s = has_moved s
 
 -- Request K12: a foot "moved by move-towards keeps the mark it had", which is last's; a target's marks mean nothing
 abbrev pub keeping : (Leg → Bool) → PointsStep → FeetStep
-keeping had (PointsMoved p) = FeetMoved (marked had p)
-keeping had (PointsArrived p) = FeetArrived (marked had p)
+keeping had (Moved p) = Moved (marked had p)
+keeping had (Arrived p) = Arrived (marked had p)
 
 unfoldable pub move_feet_towards : Feet → Feet → Float → FeetStep
 move_feet_towards last t m = keeping (lifted last) (move_points_towards (points last) (points t) m)
 
 -- the feet of a step
-unfoldable pub feet_of : FeetStep → Feet
-feet_of (FeetMoved f) = f
-feet_of (FeetArrived f) = f
+abbrev pub feet_of : FeetStep → Feet
+feet_of s = place_of s

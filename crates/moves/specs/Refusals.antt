@@ -6,7 +6,7 @@ use Rattle.numbers.specs.Limits.{foot_limit, max_move}
 use Rattle.numbers.specs.declared.door.Limit.{Limit}
 use Rattle.legs.specs.Legs.{finite_point, permitted_point, finite_feet, permitted_feet}
 use Rattle.legs.specs.declared.Point.{Point}
-use Rattle.legs.specs.declared.Feet.{Feet}
+use Rattle.legs.specs.Legs.{Feet}
 
 -- from where, to where, and by how much at most: the places are points or six feet, with their two tests; the third goes by its row
 abbrev pub refusal_by : {Place : Type 0} → (Place → Bool) → (Place → Bool) → Limit → Place → Place → Float → ℕ

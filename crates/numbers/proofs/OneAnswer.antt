@@ -1,14 +1,17 @@
 -- No second answer fits: where a contract says what an answer tells, and telling loses nothing, the answer is settled.
-use Rattle.std.specs.Prelude.{◌≡◌, ℕ, Bool, true, false, eqb, List, [], ◌∷◌}
+use Rattle.std.specs.Prelude.{◌≡◌, ⊤, ℕ, Bool, true, false, eqb, List, [], ◌∷◌, get_or}
 use mathlib.Core.Path.{refl, sym, ap, ◌∙◌}
 use native.Mathlib.Omega.{arith}
 use lib.Ieee.{Float}
 use Rattle.numbers.specs.Told.{Told, refused, choose, mark, answer}
-use Rattle.numbers.specs.Answers.{told, told_pattern}
-use Rattle.numbers.specs.declared.Answer.{Answer}
-use Rattle.numbers.specs.declared.Answer.TheVariants.{Value, Refused}
-use Rattle.numbers.specs.declared.patterns.Pattern.{Pattern}
-use Rattle.numbers.specs.declared.patterns.Pattern.TheVariants.{Bits, NotANumber}
+use Rattle.numbers.specs.Answers.{told, told_by, given_number, told_pattern}
+use Rattle.std.specs.Prelude.{Result, Ok, Err, Option, Some, None}
+use Rattle.numbers.specs.Refusals.{number_of, number_or_0}
+use Rattle.numbers.specs.declared.refusal.Refusal.{Refusal}
+use Rattle.numbers.specs.declared.refusal.Refusal.TheVariants.{NotFinite, Outside, Time, Mask, Count, PastPositive, NoRecord}
+use Rattle.numbers.specs.declared.refusal.Refusal.TheVariants.{PastNegative, TooFar}
+use Rattle.numbers.specs.declared.refusal.Refusal.TheVariants.{TooNear, StoreFull, NoSuchId, NoObject, OtherNames, IdZero, NoState, NoRoom}
+use Rattle.numbers.proofs.Numbers.{a_refusal_has_a_number}
 
 -- the general law, over any answer type and what it tells
 pub one_answer : {A B : Type 0} (tell : A → B) (keeps : (a b : A) → tell a ≡ tell b → a ≡ b) {said : B} (a b : A)
@@ -43,23 +46,81 @@ same_answers n s t h = by_test (eqb n 0)
     by_test true = h
     by_test false = (refl, refl)
 
+-- the refusals in the order of their numbers, 0 to 17; 0 is none, and stands for the last
+abbrev of_number : ℕ → Refusal
+of_number n =
+    get_or
+    (NoRoom
+    ∷ NotFinite
+    ∷ Outside
+    ∷ Time
+    ∷ Mask
+    ∷ Count
+    ∷ PastPositive
+    ∷ NoRecord
+    ∷ PastNegative
+    ∷ TooFar
+    ∷ TooNear
+    ∷ StoreFull
+    ∷ NoSuchId
+    ∷ NoObject
+    ∷ OtherNames
+    ∷ IdZero
+    ∷ NoState
+    ∷ NoRoom
+    ∷ [])
+    n NoRoom
+
+of_number_of : (r : Refusal) → of_number (number_of r) ≡ r
+of_number_of NotFinite = refl
+of_number_of Outside = refl
+of_number_of Time = refl
+of_number_of Mask = refl
+of_number_of Count = refl
+of_number_of PastPositive = refl
+of_number_of NoRecord = refl
+of_number_of PastNegative = refl
+of_number_of TooFar = refl
+of_number_of TooNear = refl
+of_number_of StoreFull = refl
+of_number_of NoSuchId = refl
+of_number_of NoObject = refl
+of_number_of OtherNames = refl
+of_number_of IdZero = refl
+of_number_of NoState = refl
+of_number_of NoRoom = refl
+
+pub number_of_loses_nothing : (a b : Refusal) → number_of a ≡ number_of b → a ≡ b
+number_of_loses_nothing a b e = sym (of_number_of a) ∙ ap of_number e ∙ of_number_of b
+
+-- and a test at the door by the number that it gives
+pub number_or_0_loses_nothing : (a b : Result ⊤ Refusal) → number_or_0 a ≡ number_or_0 b → a ≡ b
+number_or_0_loses_nothing (Ok a) (Ok b) e = refl
+number_or_0_loses_nothing (Ok a) (Err r) e = absurd (a_refusal_has_a_number r (sym e))
+number_or_0_loses_nothing (Err r) (Ok b) e = absurd (a_refusal_has_a_number r e)
+number_or_0_loses_nothing (Err r) (Err q) e = ap Err (number_of_loses_nothing r q e)
+
+-- what an answer tells settles it, where what its value says settles the value and is no refusal
+pub told_by_loses_nothing :
+    {A : Type 0} (say : A → Told) → ((a b : A) → say a ≡ say b → a ≡ b) → ((a : A) → (say a).number ≡ 0) →
+    (a b : Result A Refusal) → told_by say a ≡ told_by say b → a ≡ b
+told_by_loses_nothing say settles taken (Ok a) (Ok b) e = ap Ok (settles a b e)
+told_by_loses_nothing say settles taken (Ok a) (Err r) e =
+    absurd (a_refusal_has_a_number r (sym (ap (λ (t : Told). t.number) e) ∙ taken a))
+told_by_loses_nothing say settles taken (Err r) (Ok b) e =
+    absurd (a_refusal_has_a_number r (ap (λ (t : Told). t.number) e ∙ taken b))
+told_by_loses_nothing say settles taken (Err r) (Err q) e = ap Err (number_of_loses_nothing r q (ap (λ (t : Told). t.number) e))
+
 -- `told` loses nothing of an answer on numbers
-pub told_loses_nothing : (a b : Answer) → told a ≡ told b → a ≡ b
-told_loses_nothing (Value x) (Value y) e = let v : x ∷ [] ≡ y ∷ [] = ap (λ (t : Told). t.values) e in cc
-told_loses_nothing (Value x) (Refused n) e = let v : x ∷ [] ≡ [] = ap (λ (t : Told). t.values) e in cc
-told_loses_nothing (Refused n) (Value y) e = let v : [] ≡ y ∷ [] = ap (λ (t : Told). t.values) e in cc
-told_loses_nothing (Refused n) (Refused m) e = ap Refused (ap (λ (t : Told). t.number) e)
+pub told_loses_nothing : (a b : Result Float Refusal) → told a ≡ told b → a ≡ b
+told_loses_nothing =
+    told_by_loses_nothing given_number
+    (λ x y e. let v : x ∷ [] ≡ y ∷ [] = ap (λ (t : Told). t.values) e in cc)
+    (λ x. refl)
 
 -- and `told_pattern` nothing of a pattern
-pub told_pattern_loses_nothing : (a b : Pattern) → told_pattern a ≡ told_pattern b → a ≡ b
-told_pattern_loses_nothing (Bits n) (Bits m) e = let k : n ∷ [] ≡ m ∷ [] = ap (λ (t : Told). t.marks) e in cc
-told_pattern_loses_nothing (Bits n) NotANumber e = let k : n ∷ [] ≡ [] = ap (λ (t : Told). t.marks) e in cc
-told_pattern_loses_nothing NotANumber (Bits m) e = let k : [] ≡ m ∷ [] = ap (λ (t : Told). t.marks) e in cc
-told_pattern_loses_nothing NotANumber NotANumber e = refl
-
--- the two cases of an answer differ, and a value is one number
-pub never_both : (n : ℕ) (a : Float) → Refused n ≡ Value a → ⊥
-never_both n a e = let z : ◌≡◌ {A = ℕ} 0 1 = cc in omega arith
-
-pub one_number : (x a : Float) → Value x ≡ Value a → x ≡ a
-one_number x a e = cc
+pub told_pattern_loses_nothing : (a b : Option ℕ) → told_pattern a ≡ told_pattern b → a ≡ b
+told_pattern_loses_nothing (Some n) (Some m) e = let k : n ∷ [] ≡ m ∷ [] = ap (λ (t : Told). t.marks) e in cc
+told_pattern_loses_nothing (Some n) None e = let k : n ∷ [] ≡ [] = ap (λ (t : Told). t.marks) e in cc
+told_pattern_loses_nothing None (Some m) e = let k : [] ≡ m ∷ [] = ap (λ (t : Told). t.marks) e in cc
+told_pattern_loses_nothing None None e = refl

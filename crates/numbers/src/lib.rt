@@ -9,44 +9,28 @@ ghost use Rattle.numbers.specs.Finite.{absolute_told, min_told, max_told};
 pub mod door;
 pub mod limits;
 pub mod patterns;
+mod refusal;
 pub mod unchecked;
 
-// What an operation on numbers answers: a number, or why not.
-#[derive(Clone, Copy)]
-pub enum Answer {
-    Value(f32),
-    Refused(u32),
-}
+pub use refusal::Refusal;
 
-// The magnitude of a finite number.
-pub fn absolute(x: f32) -> Answer
+/// The magnitude of a finite number.
+pub fn absolute(x: f32) -> Result<f32, Refusal>
     ensures { told result ≡ absolute_told x }
 {
-    if door::is_finite(x) {
-        Answer::Value(unchecked::absolute(x))
-    } else {
-        Answer::Refused(1)
-    }
+    Ok(unchecked::absolute(door::finite(x)?))
 }
 
-// The smaller of two finite numbers; of equal ones the first.
-pub fn min(x: f32, y: f32) -> Answer
+/// The smaller of two finite numbers; of equal ones the first.
+pub fn min(x: f32, y: f32) -> Result<f32, Refusal>
     ensures { told result ≡ min_told x y }
 {
-    if door::is_finite(x) & door::is_finite(y) {
-        Answer::Value(unchecked::min(x, y))
-    } else {
-        Answer::Refused(1)
-    }
+    Ok(unchecked::min(door::finite(x)?, door::finite(y)?))
 }
 
-// The larger of two finite numbers; of equal ones the first.
-pub fn max(x: f32, y: f32) -> Answer
+/// The larger of two finite numbers; of equal ones the first.
+pub fn max(x: f32, y: f32) -> Result<f32, Refusal>
     ensures { told result ≡ max_told x y }
 {
-    if door::is_finite(x) & door::is_finite(y) {
-        Answer::Value(unchecked::max(x, y))
-    } else {
-        Answer::Refused(1)
-    }
+    Ok(unchecked::max(door::finite(x)?, door::finite(y)?))
 }

@@ -20,7 +20,7 @@ use Rattle.legs.specs.Legs.{Leg, left_front, right_front, left_middle, right_mid
 use Rattle.legs.specs.Answers.{lifts}
 use Rattle.legs.specs.Legs.{row, foot, lifted, marked, six_points, finite_point, finite_feet}
 use Rattle.legs.specs.declared.Point.{Point}
-use Rattle.legs.specs.declared.Feet.{Feet}
+use Rattle.legs.specs.Legs.{Feet}
 use Rattle.packed.specs.Packed.{pair, word, pair_at, word_at, long_at, float_at, point_at, foot_at, feet_at, feet_in}
 use Rattle.packed.specs.Packed.{pair_bytes, word_bytes, long_bytes, float_bytes, point_bytes, feet_bytes}
 use Rattle.packed.proofs.Storing.{no_nan, finite_each, finite_foot}

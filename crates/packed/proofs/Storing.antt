@@ -1,8 +1,9 @@
 -- Points and feet are stored as runs, one behind the other; what is stored of a finite point is finite.
-use mathlib.Core.Path.{◌≡◌, refl, ap, sym, ◌∙◌}
-use mathlib.Core.Bool.{true, false, not, ◌&&◌, true≢false}
+use mathlib.Core.Path.{◌≡◌, ap, sym, ◌∙◌}
+use mathlib.Core.Bool.{true, not, ◌&&◌, true≢false}
 use mathlib.Core.List.{List, ◌++◌}
 use Prim.Native.Nat.{ℕ, ◌+◌}
+use native.Mathlib.Nat.{add_assoc}
 use lib.Dec.{T}
 use lib.ListN.{length}
 use lib.Seq.{sets}
@@ -10,11 +11,12 @@ use lib.Ieee.{Float, nan, inf, fin, is_nan}
 use Rattle.numbers.specs.Door.{finite}
 use Rattle.numbers.proofs.OnePass.{and_left, and_right}
 use Rattle.numbers.proofs.Stores.{stores_append}
-use Rattle.legs.specs.Legs.{Leg, left_front, right_front, left_middle, right_middle, left_rear, right_rear, foot, finite_point, finite_feet}
+use Rattle.legs.specs.Legs.{Leg, foot, finite_point, finite_feet, row, at as six_at, from_row}
 use Rattle.legs.specs.declared.Point.{Point}
-use Rattle.legs.specs.declared.Feet.{Feet}
+use Rattle.legs.specs.declared.Foot.{Foot}
+use Rattle.legs.specs.Legs.{Feet}
 use Rattle.legs.proofs.OnePass.{each_true}
-use Rattle.packed.specs.Packed.{float_bytes, point_bytes, points_bytes}
+use Rattle.packed.specs.Packed.{float_bytes, point_bytes, feet_at, feet_in}
 
 pub no_nan : (x : Float) → finite x ≡ true → T (not (is_nan x))
 unfolding finite is_nan
@@ -44,6 +46,8 @@ point_stored p at l a b c first second third =
     ∙ stores_append l at (float_bytes p.x) (float_bytes p.y))
     ∙ stores_append l at (float_bytes p.x ++ float_bytes p.y) (float_bytes p.z)
 
+pub ruleset of_a_point = (finite_each, point_stored)
+
 -- one run more behind a run
 pub more : (l a b : List ℕ) (at : ℕ) (run : List ℕ) (k : ℕ) (next : List ℕ) → k ≡ at + length run → a ≡ sets l at run → b ≡ sets a k next
     → b ≡ sets l at (run ++ next)
@@ -53,16 +57,11 @@ more l a b at run k next place e f =
     ∙ ap (λ (i : ℕ). sets (sets l at run) i next) place
     ∙ stores_append l at run next
 
-pub points_stored : (f : Feet) (at : ℕ) (l a b c d e g : List ℕ)
-    → a ≡ sets l at (point_bytes (foot f left_front)) → b ≡ sets a (at + 12) (point_bytes (foot f right_front))
-    → c ≡ sets b (at + 24) (point_bytes (foot f left_middle)) → d ≡ sets c (at + 36) (point_bytes (foot f right_middle))
-    → e ≡ sets d (at + 48) (point_bytes (foot f left_rear)) → g ≡ sets e (at + 60) (point_bytes (foot f right_rear))
-    → g ≡ sets l at (points_bytes f)
-points_stored f at l a b c d e g lf rf lm rm lr rr =
-    let two = more l a b at (point_bytes (foot f left_front)) (at + 12) (point_bytes (foot f right_front)) refl lf rf in
-    let run = point_bytes (foot f left_front) ++ point_bytes (foot f right_front) in
-    let three = more l b c at run (at + 24) (point_bytes (foot f left_middle)) refl two lm in
-    let four = more l c d at (run ++ point_bytes (foot f left_middle)) (at + 36) (point_bytes (foot f right_middle)) refl three rm in
-    let long = run ++ (point_bytes (foot f left_middle) ++ point_bytes (foot f right_middle)) in
-    let five = more l d e at long (at + 48) (point_bytes (foot f left_rear)) refl four lr in
-    more l e g at (long ++ point_bytes (foot f left_rear)) (at + 60) (point_bytes (foot f right_rear)) refl five rr
+-- feet whose points stand right behind their marks
+pub feet_at_once : (l : List ℕ) (at : ℕ) → feet_in l at (at + 6) ≡ feet_at l at
+unfolding feet_in feet_at
+feet_at_once l at = simp add_assoc
+
+-- six feet are settled by their row
+pub row_back : (f : Feet) (ps : List Foot) → row (six_at f) ≡ ps → f ≡ from_row ps
+row_back f ps e = ap from_row e

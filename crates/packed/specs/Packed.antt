@@ -7,7 +7,7 @@ use Rattle.legs.specs.Legs.{left_front, right_front, left_middle, right_middle, 
 use Rattle.legs.specs.Answers.{lifts}
 use Rattle.legs.specs.declared.Point.{Point}
 use Rattle.legs.specs.declared.Foot.{Foot}
-use Rattle.legs.specs.declared.Feet.{Feet}
+use Rattle.legs.specs.Legs.{Feet}
 
 -- ---- read from a place on: two bytes and four as a number, four as a float, twelve as a point
 abbrev pub pair : ℕ → ℕ → ℕ

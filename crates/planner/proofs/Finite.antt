@@ -2,7 +2,7 @@
 -- each coordinate, the numbers of a turn at most 5, and three products are summed. Sine and cosine are from -1 to 1 at any angle.
 use Rattle.commands.specs.Constants.{one}
 use Rattle.std.specs.Prelude.{◌≡◌, ℕ, ◌*◌, ◌<◌, ◌≤◌, Bool, true, false, ◌&&◌, T, List, get_or, pos}
-use mathlib.Core.Path.{refl, sym, ap, ◌∙◌, subst}
+use mathlib.Core.Path.{refl, sym, subst}
 use native.Mathlib.Nat.{mul-le-mul_right, le_of_mul-le-mul_left}
 use native.Mathlib.Omega.{arith}
 use lib.Dec.{lit≤, lit<}
@@ -18,8 +18,8 @@ use Rattle.units.proofs.Door.{holds, finite_single}
 use Rattle.legs.specs.Legs.{Leg, point, points, foot, finite_point, finite_feet, permitted_feet}
 use Rattle.legs.specs.Vectors.{plus, minus}
 use Rattle.legs.specs.declared.Point.{Point}
-use Rattle.legs.specs.declared.Points.{Points}
-use Rattle.legs.specs.declared.Feet.{Feet}
+use Rattle.legs.specs.Legs.{Points}
+use Rattle.legs.specs.Legs.{Feet}
 use Rattle.legs.proofs.Laws.{point_of_six}
 use Rattle.legs.proofs.OnePass.{every_true}
 use Rattle.bounds.specs.Between.{Between, HeldFeet, PointBounds}

@@ -4,7 +4,7 @@ use Rattle.std.specs.Prelude.{◌≡◌}
 use mathlib.Core.Path.{refl}
 use Rattle.legs.specs.Legs.{Leg, points, lifted, marked}
 use Rattle.legs.proofs.Laws.{lifted_of_marked}
-use Rattle.legs.specs.declared.Feet.{Feet}
+use Rattle.legs.specs.Legs.{Feet}
 use Rattle.commands.specs.declared.Tripod.{Tripod}
 use Rattle.commands.specs.declared.MoveCommand.{MoveCommand}
 use Rattle.planner.specs.Plan.{planned}

@@ -1,23 +1,22 @@
 -- No number passes a limit inside: where the door lets feet and a command through, every argument that the planner hands to sine, cosine
 -- and atan2 is within document 01's row for it. A coordinate is at most 4, a centred one 8, a product 32, a turn 4, and half a rotation 2.
 use Rattle.commands.specs.Constants.{nought}
-use Rattle.std.specs.Prelude.{◌≡◌, ℕ, ◌*◌, Bool, true, false, ◌&&◌, ◌||◌, T, [], ◌∷◌}
+use Rattle.std.specs.Prelude.{◌≡◌, ℕ, ◌*◌, Bool, true, false, ◌&&◌, ◌||◌, T}
 use mathlib.Core.Path.{refl}
-use native.Mathlib.Omega.{arith}
 use lib.Dec.{lit≤, lit<}
 use lib.Ieee.{Float, binary32, fits}
 use lib.Ieee.Fits.{and_l, and_r}
 use lib.Ieee.Exact.{HasValue}
 use Rattle.numbers.specs.Told.{choose}
-use Rattle.numbers.specs.Door.{permits, unless, first_of}
+use Rattle.numbers.specs.Door.{permits, unless}
 use Rattle.numbers.specs.Limits.{over}
 use Rattle.numbers.specs.Limits as rows
 use Rattle.units.specs.Units.{unity, hi, lo}
 use Rattle.legs.specs.Legs.{Leg, left_front, right_front, left_middle, right_middle, left_rear, right_rear}
 use Rattle.legs.specs.Legs.{point, points, foot, permitted_point, finite_feet, permitted_feet}
 use Rattle.legs.specs.declared.Point.{Point}
-use Rattle.legs.specs.declared.Points.{Points}
-use Rattle.legs.specs.declared.Feet.{Feet}
+use Rattle.legs.specs.Legs.{Points}
+use Rattle.legs.specs.Legs.{Feet}
 use Rattle.bounds.specs.Between.{Between, HeldFeet, PointBounds}
 use Rattle.bounds.proofs.Between.{result_between, sum_between, difference_between, product_between, share_between, flip_between}
 use Rattle.bounds.proofs.Rows.{at_rotation, sine_row, atan2_row, point_bounds}

@@ -7,7 +7,7 @@ use Rattle.numbers.specs.Door.{unless, first_of}
 use Rattle.numbers.specs.Limits.{foot_limit}
 use Rattle.legs.specs.Legs.{points, lifted, marked, finite_feet, permitted_feet}
 use Rattle.legs.specs.Answers.{given_feet}
-use Rattle.legs.specs.declared.Feet.{Feet}
+use Rattle.legs.specs.Legs.{Feet}
 use Rattle.commands.specs.Times.{period_permitted}
 use Rattle.commands.specs.Command.{finite_command, permitted_command}
 use Rattle.commands.specs.declared.Tripod.{Tripod}

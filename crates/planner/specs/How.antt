@@ -3,7 +3,7 @@ use Rattle.std.specs.Prelude.{Bool, not, List}
 use Rattle.std.specs.Prelude.{Float}
 use Rattle.legs.specs.Legs.{Leg, left_front, right_front, left_middle, right_middle, left_rear, right_rear, point, six_points}
 use Rattle.legs.specs.declared.Point.{Point}
-use Rattle.legs.specs.declared.Points.{Points}
+use Rattle.legs.specs.Legs.{Points}
 use Rattle.planner.specs.Turns.{applied}
 use Rattle.planner.specs.Plan.{ready_foot}
 

@@ -10,7 +10,7 @@ use Rattle.numbers.specs.Limits.{over}
 use Rattle.legs.specs.Legs.{Leg, left_front, right_front, left_middle, right_middle, left_rear, right_rear, point, six_points}
 use Rattle.legs.specs.Vectors.{plus, minus}
 use Rattle.legs.specs.declared.Point.{Point}
-use Rattle.legs.specs.declared.Points.{Points}
+use Rattle.legs.specs.Legs.{Points}
 use Rattle.commands.specs.Tripods.{has}
 use Rattle.commands.specs.declared.Tripod.{Tripod}
 use Rattle.commands.specs.declared.Tripod.TheVariants.{LRL, RLR}

@@ -8,7 +8,7 @@ use crate::turns;
 use commands::{MoveCommand, Tripod};
 use legs::{Point, Points};
 
-// The three standing feet, in the order in which they are summed.
+/// The three standing feet, in the order in which they are summed.
 #[derive(Clone, Copy)]
 pub struct Trio {
     pub first: Point,
@@ -21,9 +21,9 @@ fn three(first: Point, second: Point, third: Point) -> Trio
     ensures { result ≡ trio_of first second third }
 {
     Trio {
-        first: first,
-        second: second,
-        third: third,
+        first,
+        second,
+        third,
     }
 }
 
@@ -48,6 +48,7 @@ fn in_row(lifted: Tripod, feet: Points) -> Trio
 }
 
 // The centre of three feet, in x and y.
+#[tactic(auto, using(crate::proofs::Bits::bits), unfolding(crate::specs::Plan::center_point))]
 fn center_point(t: Trio) -> Point
     ensures { result ≡ center_point t }
 {
@@ -59,6 +60,7 @@ fn center_point(t: Trio) -> Point
 }
 
 // The way from a to b, in x and y.
+#[tactic(auto, using(crate::proofs::Bits::bits), unfolding(crate::specs::Plan::between))]
 fn between(a: Point, b: Point) -> Point
     ensures { result ≡ between a b }
 {
@@ -70,6 +72,7 @@ fn between(a: Point, b: Point) -> Point
 }
 
 // The mean angle from the start's vectors, taken from their centre, to the relaxed ones, which are not.
+#[tactic(auto, using(crate::proofs::Bits::bits), unfolding(crate::specs::Plan::average_rotation))]
 fn average_rotation(start: Trio, middle: Point, relaxed: Trio) -> f32
     ensures { result ≡ average_rotation start middle relaxed }
 {
@@ -100,6 +103,8 @@ fn ready_foot(lifted: bool, start: Point, relaxed: Point, motion: Point, shift: 
 }
 
 // Six feet before their turns.
+// Kept: leg by leg, as `turns::applied_feet` is, and for its reason.
+#[tactic(auto, unfolding(crate::specs::How::ready_feet))]
 fn ready_feet(lrl: bool, start: Points, relaxed: Points, motion: Point, shift: Point) -> Points
     ensures { result ≡ ready_feet lrl start relaxed (level motion.x motion.y) (level shift.x shift.y) }
 {
@@ -120,7 +125,7 @@ fn chosen(flag: bool, x: f32, y: f32) -> f32
     if flag { x } else { y }
 }
 
-// The next target of all six feet.
+/// The next target of all six feet.
 pub fn step_with_relaxed_transformation(
     start: Points,
     relaxed: Points,

@@ -14,9 +14,8 @@ use Rattle.numbers.specs.Limits.{foot_limit}
 use Rattle.legs.specs.Legs.{Leg, left_front, right_front, left_middle, right_middle, left_rear, right_rear, permitted_point}
 use Rattle.lines.specs.Fields.{parted}
 use Rattle.numbers.proofs.Stores.{front_stored}
-use Rattle.poses.specs.declared.OptionalFoot.{OptionalFoot}
-use Rattle.poses.specs.declared.OptionalFoot.TheVariants.{Known, Null}
-use Rattle.poses.specs.declared.OptionalLegPositions.{OptionalLegPositions}
+use Rattle.std.specs.Prelude.{Some, None}
+use Rattle.poses.specs.Answers.{OptionalFoot, OptionalLegPositions}
 use Rattle.poses.specs.Decimals.{read_as, written_as}
 use Rattle.poses.specs.Json.{Text}
 use Rattle.poses.specs.Names.{name_of, same, leg_named, fields}
@@ -39,13 +38,13 @@ abbrev pub number_back : Float → Float
 number_back x = read_as (is_minus x) (written_as x)
 
 abbrev pub foot_back : OptionalFoot → OptionalFoot
-foot_back (Known f) =
-    Known
+foot_back (Some f) =
+    Some
     (record {
       point = record { x = number_back f.point.x; y = number_back f.point.y; z = number_back f.point.z };
       lifted = false;
     })
-foot_back Null = Null
+foot_back None = None
 
 abbrev pub read_back : OptionalLegPositions → OptionalLegPositions
 read_back p = six_legs (λ l. foot_back (leg_of p l))
@@ -65,8 +64,8 @@ value_of p left_rear = refl
 value_of p right_rear = refl
 
 foot_back_lem : (f : OptionalFoot) → foot_of (written_value f) ≡ foot_back f
-foot_back_lem (Known f) = refl
-foot_back_lem Null = refl
+foot_back_lem (Some f) = refl
+foot_back_lem None = refl
 
 pose_back : (p : OptionalLegPositions) → pose_of (members_for p) ≡ read_back p
 pose_back p = ap six_legs (fun_ext (λ l. ap foot_of (value_of p l) ∙ foot_back_lem (leg_of p l)))
@@ -83,15 +82,15 @@ nothing_refused i o t p q = simp (p, q)
 
 -- ---- a coordinate that an f32 is, as every argument is
 abbrev pub FootFits : OptionalFoot → Type 0
-FootFits (Known f) = T (fits binary32 f.point.x) × T (fits binary32 f.point.y) × T (fits binary32 f.point.z)
-FootFits Null = Unit
+FootFits (Some f) = T (fits binary32 f.point.x) × T (fits binary32 f.point.y) × T (fits binary32 f.point.z)
+FootFits None = Unit
 
 few_of : (x : Float) → T (fits binary32 x) → T (permits foot_limit x) → Few x
 few_of x h e = omega (arith, written_below x h e)
 
 foot_few : (f : OptionalFoot) → FootFits f → foot_permitted f ≡ true → FewParts f
-foot_few Null h e = tt
-foot_few (Known f) h e =
+foot_few None h e = tt
+foot_few (Some f) h e =
     let p = f.point in (
       few_of p.x h.0 (permits_x p e),
       few_of p.y h.1 (permits_y p e),
@@ -103,8 +102,8 @@ inside_of x h e = is_true (permits foot_limit (number_back x)) (read_permitted x
 
 foot_inside : (f : OptionalFoot) → FootFits f → foot_permitted f ≡ true → inside (written_value f) ≡ true
 unfolding permitted_point
-foot_inside Null h e = refl
-foot_inside (Known f) h e =
+foot_inside None h e = refl
+foot_inside (Some f) h e =
     let p = f.point in
     let x = permits foot_limit (number_back p.x) in
     let y = permits foot_limit (number_back p.y) in
@@ -147,8 +146,8 @@ row_and_read p row fit taken =
 
 -- ---- a foot's mark is not written: poses that differ in it alone have one text
 abbrev pub marked : Bool → OptionalFoot → OptionalFoot
-marked b (Known f) = Known (record { point = f.point; lifted = b })
-marked b Null = Null
+marked b (Some f) = Some (record { point = f.point; lifted = b })
+marked b None = None
 
 texts : (Leg → List ℕ) → List ℕ
 texts t = 123 ∷ (parted 44 (map (λ l. 34 ∷ (name_of l ++ (34 ∷ 58 ∷ t l))) fields) ++ (125 ∷ []))
@@ -165,5 +164,5 @@ mark_not_written g b =
     ∙ sym (by_feet (six_legs g))
   where
     same_text : (c : Bool) (f : OptionalFoot) → foot_text (marked c f) ≡ foot_text f
-    same_text c (Known f) = refl
-    same_text c Null = refl
+    same_text c (Some f) = refl
+    same_text c None = refl

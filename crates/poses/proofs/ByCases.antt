@@ -4,16 +4,18 @@ use mathlib.Core.Path.{refl, sym, ap, ◌∙◌}
 use native.Mathlib.Omega.{arith}
 use borrow.Author.Tests.{eq-eqb, ne_eqb}
 use Rattle.numbers.specs.Told.{choose}
-use Rattle.numbers.specs.Limits.{foot_limit}
-use Rattle.legs.specs.Legs.{permitted_point}
 use Rattle.legs.specs.declared.Point.{Point}
+use Rattle.legs.specs.declared.Foot.{Foot}
 use Rattle.poses.specs.Json.{is_digit}
 use Rattle.poses.specs.How.{byte, nowhere, past, token, after, amount_at, three_at, value_at, name_end, member_at}
 use Rattle.poses.specs.Gathering.{run_read, amount_read, number_read, null_read, three_read, value_read, point_read}
-use Rattle.poses.specs.Gathering.{leg_between, member_read, is_strange, placed, one_more, begun, go_on, members_read, object_read}
+use Rattle.std.specs.Prelude.{Option, Some}
+use Rattle.legs.specs.declared.leg.Leg.{Leg}
+use Rattle.poses.specs.Writing.{foot_permitted}
+use Rattle.poses.specs.Gathering.{Slot, the_leg, number_or_6, leg_between, member_read, is_strange, placed, one_more, begun, go_on}
+use Rattle.poses.specs.Gathering.{members_read, object_read}
 use Rattle.poses.specs.declared.values.Run.{Run}
 use Rattle.poses.specs.declared.values.NumberRead.{NumberRead}
-use Rattle.poses.specs.declared.values.Slot.{Slot}
 use Rattle.poses.specs.declared.values.ValueRead.{ValueRead}
 use Rattle.poses.specs.declared.object.MemberRead.{MemberRead}
 use Rattle.poses.specs.declared.object.Progress.{Progress}
@@ -37,15 +39,15 @@ module _ (minus : Bool) (s : List ℕ) (i : ℕ) (is : is_digit (byte s i) ≡ t
       ∙ simp (is, eq-eqb (byte s (i + 1)) 46 point, ne_eqb (run_read (byte s i - 48) (drop (i + 2) s)).taken 0 e)
 
 -- three numbers, each step by the one before it
-pub three_in_order : (s : List ℕ) (i : ℕ) {t p u q v o next : ℕ} {x y z : NumberRead} {point : Point}
+pub three_in_order : (s : List ℕ) (i : ℕ) {t p u q v o next : ℕ} {x y z : NumberRead} {point : Point} {foot : Foot}
     → t ≡ token 91 s i → x ≡ number_read s t → p ≡ past s x.next
     → u ≡ token 44 s p → y ≡ number_read s u → q ≡ past s y.next
     → v ≡ token 44 s q → z ≡ number_read s v → o ≡ past s z.next
-    → next ≡ after 93 s o → point ≡ point_read x y z
-    → ◌≡◌ {A = ValueRead} (record { slot = record { kind = 2; point = point }; next = next }) (three_read s i)
+    → next ≡ after 93 s o → point ≡ point_read x y z → foot ≡ record { point = point; lifted = false }
+    → ◌≡◌ {A = ValueRead} (record { foot = Some foot; next = next }) (three_read s i)
 unfolding three_at
-three_in_order s i ht hx hp hu hy hq hv hz ho hn hpoint =
-    rw (hpoint, hn, ho, hz, hv, hq, hy, hu, hp, hx, ht) refl
+three_in_order s i ht hx hp hu hy hq hv hz ho hn hpoint hfoot =
+    rw (hfoot, hpoint, hn, ho, hz, hv, hq, hy, hu, hp, hx, ht) refl
 
 module _ (s : List ℕ) (i : ℕ) where
   pub value_null : byte s i ≡ 110 → null_read s i ≡ value_read s i
@@ -57,16 +59,16 @@ module _ (s : List ℕ) (i : ℕ) where
   value_three other = simp (ne_eqb (byte s i) 110 other)
 
 -- ---- a member, and one more, each step by the one before it
-pub member_in_order : (s : List ℕ) (i : ℕ) {from end p t leg next : ℕ} {v : ValueRead}
+pub member_in_order : (s : List ℕ) (i : ℕ) {from end p t next : ℕ} {leg : Option Leg} {v : ValueRead}
     → from ≡ after 34 s i → end ≡ name_end s from → p ≡ past s end → t ≡ token 58 s p → v ≡ value_read s t
-    → leg ≡ leg_between s from end → next ≡ past s v.next
-    → ◌≡◌ {A = MemberRead} (record { leg = leg; slot = v.slot; next = next }) (member_read s i)
+    → leg ≡ the_leg (leg_between s from end) → next ≡ past s v.next
+    → ◌≡◌ {A = MemberRead} (record { leg = leg; foot = v.foot; next = next }) (member_read s i)
 unfolding member_read member_at leg_between
 member_in_order s i hf he hp ht hv hl hn = rw (hn, hl, hv, ht, hp, he, hf) refl
 
 pub one_more_in_order : (s : List ℕ) (p : Progress) {m : MemberRead} {b c at : ℕ} {inside strange : Bool} {next : List Slot}
-    → m ≡ member_read s p.at → b ≡ byte s m.next → inside ≡ permitted_point foot_limit m.slot.point
-    → strange ≡ is_strange p.slots m.leg → next ≡ placed p.slots m.leg m.slot → c ≡ choose (eqb b 44) 44 125
+    → m ≡ member_read s p.at → b ≡ byte s m.next → inside ≡ foot_permitted m.foot
+    → strange ≡ is_strange p.slots (number_or_6 m.leg) → next ≡ placed p.slots (number_or_6 m.leg) m.foot → c ≡ choose (eqb b 44) 44 125
     → at ≡ token c s m.next
     → ◌≡◌ {A = Progress}
     (record { at = at; due = eqb b 44; outside = p.outside || not inside; strange = p.strange || strange; slots = next }) (one_more s p)

@@ -1,6 +1,6 @@
 -- The request's example, written and read by computation; refusals in their order, 13 first, then 2, then 14; and the six names, each once,
 -- and one of them twice.
-use Rattle.std.specs.Prelude.{◌≡◌, ℕ, true, false, List, [], ◌∷◌, ◌++◌, map}
+use Rattle.std.specs.Prelude.{◌≡◌, ℕ, false, List, [], ◌∷◌, ◌++◌, map}
 use mathlib.Core.Path.{refl}
 use lib.Ieee.{binary32, of_bits, to_bits, round, le}
 use Rattle.numbers.specs.Told.{refused}
@@ -9,9 +9,8 @@ use Rattle.units.specs.Units.{mag}
 use Rattle.legs.specs.Legs.{Leg, left_rear, permitted_point}
 use Rattle.lines.specs.Digits.{digit, numeral}
 use Rattle.lines.specs.Fields.{parted}
-use Rattle.poses.specs.declared.OptionalFoot.{OptionalFoot}
-use Rattle.poses.specs.declared.OptionalFoot.TheVariants.{Known, Null}
-use Rattle.poses.specs.declared.OptionalLegPositions.{OptionalLegPositions}
+use Rattle.std.specs.Prelude.{Some, None}
+use Rattle.poses.specs.Answers.{OptionalLegPositions}
 use Rattle.poses.specs.Decimals.{read_as, nearest_whole, written_as}
 use Rattle.poses.specs.How.{reading, found, found_from, member_at, value_at, null_at, three_at, number_at}
 use Rattle.poses.specs.How.{amount_at, run_of, name_end, closing, char_long, escaped, wide, blanks}
@@ -25,16 +24,16 @@ use Rattle.poses.specs.Writing.{parts_text, number_text, point_text, named_text,
 abbrev one_foot : OptionalLegPositions
 one_foot =
     record {
-      left_front = Known
+      left_front = Some
           (record {
             point = record { x = of_bits binary32 1040187392; y = of_bits binary32 2147483648; z = of_bits binary32 1082130432 };
             lifted = false;
           });
-      left_middle = Null;
-      left_rear = Null;
-      right_front = Null;
-      right_middle = Null;
-      right_rear = Null;
+      left_middle = None;
+      left_rear = None;
+      right_front = None;
+      right_middle = None;
+      right_rear = None;
     }
 
 -- {"left_front":[0.12500000,-0.00000000,4.00000000],"left_middle":null,"left_rear":null,"right_front":null,"right_middle":null,

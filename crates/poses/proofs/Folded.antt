@@ -5,39 +5,39 @@ use mathlib.Core.Path.{refl, sym, ap, subst, ◌∙◌}
 use mathlib.Core.Bool.{true≢false}
 use native.Mathlib.Nat.{add-zero}
 use native.Mathlib.Omega.{arith}
-use lib.Ieee.{of_bits, round, le, lt, eq}
 use lib.ListN.{length-set, get_or-replicate}
 use lib.Seq.{get_or-set_same, get_or-set_other}
 use borrow.Author.Tests.{eqb-true, eqb-false, eq-eqb, lt-ltb, ltb-true, not-true}
 use Rattle.numbers.specs.Told.{choose, mark}
-use Rattle.numbers.specs.Limits.{foot_limit}
 use Rattle.numbers.proofs.OnePass.{and_left, and_right}
-use Rattle.legs.specs.Legs.{Leg, every, permitted_point}
+use Rattle.legs.specs.Legs.{Leg, every}
 use Rattle.numbers.proofs.Flags.{chosen, both_ways, and_both, or_left, or_right}
-use Rattle.poses.specs.declared.values.Slot.{Slot}
 use Rattle.poses.specs.Json.{Value, null, three, Member}
 use Rattle.poses.specs.Names.{number}
 use Rattle.poses.specs.Reading.{inside, all_inside, leg_of_member, times, all_known, each_once, foot_of, value_from}
-use Rattle.poses.specs.Gathering.{no_slot, out_of_row, slot_of, slot_at, has_value, is_strange, placed, is_complete, foot_from}
+use Rattle.poses.specs.Gathering.{Slot, slot_at, has_value, is_strange, placed, is_complete, foot_from}
+use Rattle.poses.specs.Answers.{OptionalFoot}
+use Rattle.poses.specs.Writing.{foot_permitted}
+use Rattle.std.specs.Prelude.{Some, None}
 use Rattle.legs.proofs.OnePass.{each_true, every_true}
 use Rattle.poses.proofs.Named.{below_six, at_legs}
 
 -- ---- the members' work
 unfoldable pub slots_after : List Slot → List Member → List Slot
 slots_after slots [] = slots
-slots_after slots (m ∷ ms) = slots_after (placed slots (leg_of_member m) (slot_of m.value)) ms
+slots_after slots (m ∷ ms) = slots_after (placed slots (leg_of_member m) (foot_of m.value)) ms
 
 unfoldable pub outside_after : Bool → List Member → Bool
 outside_after o [] = o
-outside_after o (m ∷ ms) = outside_after (o || not (permitted_point foot_limit (slot_of m.value).point)) ms
+outside_after o (m ∷ ms) = outside_after (o || not (foot_permitted (foot_of m.value))) ms
 
 unfoldable pub strange_after : Bool → List Slot → List Member → Bool
 strange_after b slots [] = b
 strange_after b slots (m ∷ ms) =
-    strange_after (b || is_strange slots (leg_of_member m)) (placed slots (leg_of_member m) (slot_of m.value)) ms
+    strange_after (b || is_strange slots (leg_of_member m)) (placed slots (leg_of_member m) (foot_of m.value)) ms
 
 abbrev pub no_slots : List Slot
-no_slots = replicate 6 (no_slot 0)
+no_slots = replicate 6 None
 
 -- ---- of flags and their marks
 or_false : (o : Bool) → o ≡ (o || false)
@@ -53,8 +53,7 @@ unmarked true n e = absurd (omega arith)
 unmarked false n e = refl
 
 -- ---- 2: a number outside
-inside_by_slot : (v : Value) → permitted_point foot_limit (slot_of v).point ≡ inside v
-unfolding permitted_point foot_limit of_bits round le lt eq
+inside_by_slot : (v : Value) → foot_permitted (foot_of v) ≡ inside v
 inside_by_slot null = refl
 inside_by_slot (three x y z) = refl
 
@@ -67,36 +66,33 @@ pub outside_means : (o : Bool) (ms : List Member) → outside_after o ms ≡ (o 
 unfolding outside_after all_inside
 outside_means o [] = or_false o
 outside_means o (m ∷ ms) =
-    outside_means (o || not (permitted_point foot_limit (slot_of m.value).point)) ms
+    outside_means (o || not (foot_permitted (foot_of m.value))) ms
     ∙ ap (λ (b : Bool). (o || not b) || not (all_inside ms)) (inside_by_slot m.value)
     ∙ either_outside o (inside m.value) (all_inside ms)
 
 -- ---- a slot that is filled
-pub length_placed : (slots : List Slot) (j : ℕ) (slot : Slot) → length (placed slots j slot) ≡ length slots
-length_placed slots j slot =
-    chosen (λ (r : List Slot). length r ≡ length slots) (ltb j 6) (set slots j slot) slots (λ e. length-set slots j slot) (λ e. refl)
+pub length_placed : (slots : List Slot) (j : ℕ) (f : OptionalFoot) → length (placed slots j f) ≡ length slots
+length_placed slots j f =
+    chosen (λ (r : List Slot). length r ≡ length slots) (ltb j 6) (set slots j (Some f)) slots (λ e. length-set slots j (Some f))
+    (λ e. refl)
 
-placed_same : (slots : List Slot) (j k : ℕ) (slot : Slot) → length slots ≡ 6 → k < 6 → eqb j k ≡ true →
-    slot_at (placed slots j slot) k ≡ slot
-placed_same slots j k slot six h e =
+placed_same : (slots : List Slot) (j k : ℕ) (f : OptionalFoot) → length slots ≡ 6 → k < 6 → eqb j k ≡ true →
+    slot_at (placed slots j f) k ≡ Some f
+placed_same slots j k f six h e =
     let q : j ≡ k = eqb-true j k e in
-    rw (q, lt-ltb k 6 h) (get_or-set_same slots k slot out_of_row (omega arith))
+    rw (q, lt-ltb k 6 h) (get_or-set_same slots k (Some f) None (omega arith))
 
-placed_other : (slots : List Slot) (j k : ℕ) (slot : Slot) → eqb j k ≡ false → slot_at (placed slots j slot) k ≡ slot_at slots k
-placed_other slots j k slot e =
-    chosen (λ (r : List Slot). slot_at r k ≡ slot_at slots k) (ltb j 6) (set slots j slot) slots
-    (λ t. get_or-set_other slots j k slot out_of_row (λ q. eqb-false j k e (sym q)))
+placed_other : (slots : List Slot) (j k : ℕ) (f : OptionalFoot) → eqb j k ≡ false → slot_at (placed slots j f) k ≡ slot_at slots k
+placed_other slots j k f e =
+    chosen (λ (r : List Slot). slot_at r k ≡ slot_at slots k) (ltb j 6) (set slots j (Some f)) slots
+    (λ t. get_or-set_other slots j k (Some f) None (λ q. eqb-false j k e (sym q)))
     (λ t. refl)
 
 -- ---- the value of a leg
-foot_of_slot : (v : Value) → foot_from (slot_of v) ≡ foot_of v
-foot_of_slot null = refl
-foot_of_slot (three x y z) = refl
-
 foot_placed : (slots : List Slot) (j k : ℕ) (u v : Value) (b : Bool) → length slots ≡ 6 → k < 6 → foot_from (slot_at slots k) ≡ foot_of v →
-    eqb j k ≡ b → foot_from (slot_at (placed slots j (slot_of u)) k) ≡ foot_of (choose b u v)
-foot_placed slots j k u v true six h was e = ap foot_from (placed_same slots j k (slot_of u) six h e) ∙ foot_of_slot u
-foot_placed slots j k u v false six h was e = ap foot_from (placed_other slots j k (slot_of u) e) ∙ was
+    eqb j k ≡ b → foot_from (slot_at (placed slots j (foot_of u)) k) ≡ foot_of (choose b u v)
+foot_placed slots j k u v true six h was e = ap foot_from (placed_same slots j k (foot_of u) six h e)
+foot_placed slots j k u v false six h was e = ap foot_from (placed_other slots j k (foot_of u) e) ∙ was
 
 pub slots_mean : (slots : List Slot) (ms : List Member) (v : Value) (k : ℕ) → length slots ≡ 6 → k < 6 →
     foot_from (slot_at slots k) ≡ foot_of v → foot_from (slot_at (slots_after slots ms) k) ≡ foot_of (value_from v k ms)
@@ -104,28 +100,24 @@ unfolding slots_after value_from
 slots_mean slots [] v k six h was = was
 slots_mean slots (m ∷ ms) v k six h was =
     let j = leg_of_member m in
-    slots_mean (placed slots j (slot_of m.value)) ms (choose (eqb j k) m.value v) k (length_placed slots j (slot_of m.value) ∙ six) h
+    slots_mean (placed slots j (foot_of m.value)) ms (choose (eqb j k) m.value v) k (length_placed slots j (foot_of m.value) ∙ six) h
     (foot_placed slots j k m.value v (eqb j k) six h was refl)
 
 -- ---- 14: how often a leg is there, counted with what its slot has
 abbrev count : List Slot → ℕ → ℕ
 count slots k = mark (has_value (slot_at slots k))
 
-has_slot : (v : Value) → has_value (slot_of v) ≡ true
-has_slot null = refl
-has_slot (three x y z) = refl
-
 one_placed : (slots : List Slot) (j k : ℕ) (v : Value) (n : ℕ) (b : Bool) → length slots ≡ 6 → k < 6 → has_value (slot_at slots j) ≡ false →
-    eqb j k ≡ b → count slots k + (mark b + n) ≡ count (placed slots j (slot_of v)) k + n
+    eqb j k ≡ b → count slots k + (mark b + n) ≡ count (placed slots j (foot_of v)) k + n
 one_placed slots j k v n true six h free e =
     let q : j ≡ k = eqb-true j k e in
     let none : count slots k ≡ 0 = ap mark (subst (λ (i : ℕ). has_value (slot_at slots i) ≡ false) q free) in
-    let one : count (placed slots j (slot_of v)) k ≡ 1 =
-    ap (λ (slot : Slot). mark (has_value slot)) (placed_same slots j k (slot_of v) six h e) ∙ ap mark (has_slot v) in
+    let one : count (placed slots j (foot_of v)) k ≡ 1 =
+    ap (λ (slot : Slot). mark (has_value slot)) (placed_same slots j k (foot_of v) six h e) in
     omega arith
 one_placed slots j k v n false six h free e =
-    let same : count (placed slots j (slot_of v)) k ≡ count slots k =
-    ap (λ (slot : Slot). mark (has_value slot)) (placed_other slots j k (slot_of v) e) in
+    let same : count (placed slots j (foot_of v)) k ≡ count slots k =
+    ap (λ (slot : Slot). mark (has_value slot)) (placed_other slots j k (foot_of v) e) in
     omega arith
 
 known_and_free : (t h : Bool) → choose t h true ≡ false → (t ≡ true) × (h ≡ false)
@@ -138,8 +130,8 @@ unfolding strange_after slots_after all_known times
 never_strange b slots [] six e = (e, refl, λ k h. add-zero (count slots k))
 never_strange b slots (m ∷ ms) six e =
     let j = leg_of_member m in
-    let slot = slot_of m.value in
-    let was = never_strange (b || is_strange slots j) (placed slots j slot) ms (length_placed slots j slot ∙ six) e in
+    let foot = foot_of m.value in
+    let was = never_strange (b || is_strange slots j) (placed slots j foot) ms (length_placed slots j foot ∙ six) e in
     let free = known_and_free (ltb j 6) (has_value (slot_at slots j)) (or_right b (is_strange slots j) was.0) in (
       or_left b (is_strange slots j) was.0,
       and_both (ltb j 6) (all_known ms) free.0 was.1,
@@ -153,7 +145,7 @@ unfolding strange_after slots_after all_known times
 once_each slots [] six known once = (refl, λ k h. sym (add-zero (count slots k)) ∙ once k h)
 once_each slots (m ∷ ms) six known once =
     let j = leg_of_member m in
-    let slot = slot_of m.value in
+    let foot = foot_of m.value in
     let below : ltb j 6 ≡ true = and_left (ltb j 6) (all_known ms) known in
     let low : j < 6 = ltb-true j 6 below in
     let free : has_value (slot_at slots j) ≡ false =
@@ -161,13 +153,13 @@ once_each slots (m ∷ ms) six known once =
     (ap (λ (b : Bool). count slots j + (mark b + times j ms)) (sym (eq-eqb j j refl)) ∙ once j low) in
     let not_strange : is_strange slots j ≡ false = simp (below, free) in
     let after =
-    once_each (placed slots j slot) ms (length_placed slots j slot ∙ six) (and_right (ltb j 6) (all_known ms) known)
+    once_each (placed slots j foot) ms (length_placed slots j foot ∙ six) (and_right (ltb j 6) (all_known ms) known)
     (λ k h. sym (one_placed slots j k m.value (times k ms) (eqb j k) six h free refl) ∙ once k h) in
-    (ap (λ (b : Bool). strange_after b (placed slots j slot) ms) not_strange ∙ after.0, after.1)
+    (ap (λ (b : Bool). strange_after b (placed slots j foot) ms) not_strange ∙ after.0, after.1)
 
 -- ---- the six, each once
 nothing_yet : (k : ℕ) → k < 6 → count no_slots k ≡ 0
-nothing_yet k h = ap (λ (slot : Slot). mark (has_value slot)) (get_or-replicate 6 k (no_slot 0) out_of_row h)
+nothing_yet k h = ap (λ (slot : Slot). mark (has_value slot)) (get_or-replicate 6 k None None h)
 
 pub once_means : (ms : List Member) → (not (strange_after false no_slots ms) && is_complete (slots_after no_slots ms)) ≡ each_once ms
 once_means ms = both_ways (not strange && is_complete slots) (each_once ms) there back

@@ -7,19 +7,18 @@ use lib.ListN.{get_or-replicate}
 use borrow.Author.Tests.{ne_eqb}
 use Rattle.numbers.specs.Told.{Told, choose, answer}
 use Rattle.numbers.specs.Door.{unless, either}
-use Rattle.numbers.specs.Limits.{foot_limit}
-use Rattle.legs.specs.Legs.{permitted_point}
-use Rattle.poses.specs.declared.values.Slot.{Slot}
 use Rattle.poses.specs.declared.object.Progress.{Progress}
 use Rattle.poses.specs.Json.{Member, null}
 use Rattle.poses.specs.How.{byte, nowhere, past, token, MemberAt, member_at, Found, found_from, found, derived, underived, reading}
 use Rattle.poses.specs.Names.{number}
 use Rattle.poses.specs.Answers.{six_legs, given_pose}
-use Rattle.poses.specs.Reading.{leg_of_member, all_inside, each_once, pose_of, read_told, from_json_told}
-use Rattle.poses.specs.Gathering.{no_slot, out_of_row, slot_of, is_strange, placed, member_read, one_more, go_on, object_read}
+use Rattle.poses.specs.Reading.{leg_of_member, foot_of, all_inside, each_once, pose_of, read_told, from_json_told}
+use Rattle.poses.specs.Writing.{foot_permitted}
+use Rattle.std.specs.Prelude.{None}
+use Rattle.poses.specs.Gathering.{Slot, is_strange, placed, member_read, one_more, go_on, object_read}
 use Rattle.poses.specs.Gathering.{progress_refused, foot_from, pose_from}
 use Rattle.poses.proofs.ByCases.{go_on_stops}
-use Rattle.poses.proofs.Named.{below_six}
+use Rattle.poses.proofs.Named.{below_six, leg_back}
 use Rattle.poses.proofs.Folded.{slots_after, outside_after, strange_after, no_slots, outside_means, slots_mean, once_means}
 
 -- ---- the two ways side by side: the members were too many, and both know of no end; or the object closed, at the same place
@@ -38,8 +37,8 @@ Follows s o b slots p f = Endless s p f ⊎ (p ≡ after f.next o b slots f.memb
 -- one member more
 abbrev with_member : ℕ → Bool → Bool → Bool → List Slot → Member → Progress
 with_member at due o b slots m =
-    state at due (o || not (permitted_point foot_limit (slot_of m.value).point)) (b || is_strange slots (leg_of_member m))
-    (placed slots (leg_of_member m) (slot_of m.value))
+    state at due (o || not (foot_permitted (foot_of m.value))) (b || is_strange slots (leg_of_member m))
+    (placed slots (leg_of_member m) (foot_of m.value))
 
 -- one member, and a comma behind it or none
 by_comma : (most : ℕ) (s : List ℕ) (comma : Bool) (m : MemberAt) (o b : Bool) (slots : List Slot) →
@@ -63,7 +62,8 @@ members_follow : (most : ℕ) (s : List ℕ) (at : ℕ) (o b : Bool) (slots : Li
 unfolding go_on one_more member_read found_from
 members_follow zero s at o b slots = inl (refl, refl)
 members_follow (suc most) s at o b slots =
-    by_comma most s (eqb (byte s (member_at s at).next) 44) (member_at s at) o b slots (members_follow most s)
+    rw (leg_back (member_at s at).member.name)
+    (by_comma most s (eqb (byte s (member_at s at).next) 44) (member_at s at) o b slots (members_follow most s))
 
 -- the whole object
 by_closing : (s : List ℕ) (closes : Bool) (i : ℕ) →
@@ -86,7 +86,7 @@ pose_means ms =
     (fun_ext
     (λ l.
     slots_mean no_slots ms null (number l) refl (below_six l)
-    (ap foot_from (get_or-replicate 6 (number l) (no_slot 0) out_of_row (below_six l)))))
+    (ap foot_from (get_or-replicate 6 (number l) None None (below_six l)))))
 
 -- ---- the refusals
 refused_alike : (inside once : Bool) (t : Told) →

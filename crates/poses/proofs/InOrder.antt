@@ -1,6 +1,9 @@
 -- Texts stored one behind the other are a point's, a member's and a pose's; and the longest text has 310 bytes.
+use lib.Seq.{sets, sets-eq, drop-drop}
+use borrow.Rule.Slice.PartMut.{put_mid}
+use Rattle.std.specs.Prelude.{◌-◌, take, drop}
 use Rattle.std.specs.Prelude.{◌≡◌, ℕ, ◌+◌, ◌≤◌, Bool, true, false, List, [], ◌∷◌, ◌++◌, length}
-use mathlib.Core.Path.{refl, ap, ◌∙◌}
+use mathlib.Core.Path.{refl, sym, ap, ◌∙◌}
 use mathlib.Core.List.{append_assoc}
 use native.Mathlib.Omega.{arith}
 use lib.Dec.{lit≤}
@@ -12,12 +15,23 @@ use Rattle.numbers.specs.Stored.{Stored}
 use Rattle.numbers.proofs.Stores.{stored_as}
 use Rattle.legs.specs.Legs.{Leg, left_front, left_middle, left_rear, right_front, right_middle, right_rear}
 use Rattle.legs.specs.declared.Point.{Point}
-use Rattle.poses.specs.declared.OptionalFoot.{OptionalFoot}
-use Rattle.poses.specs.declared.OptionalFoot.TheVariants.{Known, Null}
+use Rattle.poses.specs.Answers.{OptionalFoot}
+use Rattle.std.specs.Prelude.{Some, None}
 use Rattle.poses.specs.Decimals.{written_as}
-use Rattle.poses.specs.declared.OptionalLegPositions.{OptionalLegPositions}
+use Rattle.poses.specs.Answers.{OptionalLegPositions}
 use Rattle.poses.specs.Names.{name_of, name_at}
 use Rattle.poses.specs.Writing.{is_minus, minus_text, parts_text, number_text, point_text, foot_text, named_text, member_text, pose_text}
+
+-- what is copied over a part of a row is stored there
+pub copied : (row text part : List ℕ) (at : ℕ) → part ≡ text → at + length text ≤ length row
+    → put_mid at (at + length text - at) row part ≡ sets row at text
+copied row text part at is room =
+    let n : at + length text - at ≡ length text = omega arith in
+    ap (λ (p : List ℕ). put_mid at (at + length text - at) row p) is
+    ∙ ap (λ (k : ℕ). take at row ++ (text ++ drop k (drop at row))) n
+    ∙ ap (λ (m : List ℕ). take at row ++ (text ++ m)) (drop-drop (length text) at row)
+    ∙ sym (append_assoc (take at row) text (drop (at + length text) row))
+    ∙ sym (sets-eq text row at room)
 
 -- what is stored is this text; the text comes before the proof, so that another one is named by its bytes
 pub text_is : {l l' : List ℕ} {at r : ℕ} {a : List ℕ} (b : List ℕ) → Stored l at a r l' → a ≡ b → Stored l at b r l'
@@ -71,8 +85,8 @@ number_long x = by_sign (is_minus x) (parts_text (written_as x)) (parts_long (wr
 
 foot_long : (f : OptionalFoot) → length (foot_text f) ≤ 37
 unfolding point_text parted
-foot_long Null = lit≤ tt
-foot_long (Known f) =
+foot_long None = lit≤ tt
+foot_long (Some f) =
     three (number_text f.point.x) (number_text f.point.y) (number_text f.point.z) (number_long f.point.x)
     (number_long f.point.y) (number_long f.point.z)
   where

@@ -22,7 +22,7 @@ mod Characters
 mod Closing
 mod NamesExact
 pub mod Named
-mod SameBytes
+pub mod Likely
 -- members
 mod ByCases
 mod MembersExact
@@ -34,7 +34,7 @@ mod WritingDoor
 pub mod Written
 -- whole
 pub mod Exact
-mod Answered
+pub mod Answered
 pub mod Said
 mod TextExamples
 pub mod OneAnswer

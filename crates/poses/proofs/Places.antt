@@ -1,7 +1,7 @@
 -- The bytes of a text by their places: a byte that is not 0 stands within the text, what follows a place begins with its byte, and
 -- blanks are passed one by one.
-use Rattle.std.specs.Prelude.{◌≡◌, ℕ, suc, ◌+◌, ◌<◌, ◌≤◌, true, false, List, ◌∷◌, length, drop}
-use mathlib.Core.Path.{ap, ◌∙◌}
+use Rattle.std.specs.Prelude.{◌≡◌, ℕ, suc, ◌+◌, ◌<◌, ◌≤◌, true, false, List, ◌∷◌, length, drop, max}
+use mathlib.Core.Path.{sym, ap, ◌∙◌}
 use mathlib.Core.Logic.{inl, inr}
 use native.Mathlib.Numerals.{add-one}
 use native.Mathlib.Omega.{arith}
@@ -43,3 +43,16 @@ module _ (s : List ℕ) (i : ℕ) where
   past_end h =
       let e : blanks (drop i s) ≡ 0 = ap blanks (drop_of_length-le s h) in
       omega (arith, e)
+
+-- where all is passed from a place on: i is where the passing ended
+pub past_all : (s : List ℕ) (from i r : ℕ) → r ≡ max from (length s) → length s ≤ i → (from ≤ length s → i ≤ length s)
+    → past s i ≡ past s from → r ≡ past s from
+past_all s from i r is far near same = elim (le_or_lt from (length s)) [
+  | inl l ↦
+      let n : i ≤ length s = near l in
+      let e : r ≡ i = omega (arith, is, l, n, far) in
+      e ∙ sym (past_end s i far) ∙ same
+  | inr g ↦
+      let e : r ≡ from = omega (arith, is, g) in
+      e ∙ sym (past_end s from (omega (arith, g)))
+]

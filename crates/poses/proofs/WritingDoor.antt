@@ -4,7 +4,7 @@ use mathlib.Core.Path.{refl, sym, ap, ◌∙◌}
 use native.Mathlib.Nat.{zero-add}
 use native.Mathlib.Omega.{arith}
 use lib.Seq.{sets}
-use borrow.Author.Tests.{eq-eqb, ne_eqb, eqb-true}
+use borrow.Author.Tests.{eq-eqb, eqb-true}
 use lib.Ieee.Bits.{is_true}
 use Rattle.numbers.specs.Told.{refused, given, choose}
 use Rattle.numbers.specs.Door.{permits, unless}
@@ -15,11 +15,13 @@ use Rattle.legs.specs.Legs.{permitted_point}
 use Rattle.legs.specs.declared.Point.{Point}
 use Rattle.legs.proofs.OnePass.{all_six, in_foot_row}
 use Rattle.numbers.specs.Stored.{Stored}
-use Rattle.poses.specs.declared.OptionalFoot.{OptionalFoot}
-use Rattle.poses.specs.declared.OptionalFoot.TheVariants.{Known, Null}
-use Rattle.poses.specs.declared.OptionalLegPositions.{OptionalLegPositions}
-use Rattle.poses.specs.declared.PoseWritten.TheVariants.{Length, Refused}
-use Rattle.poses.specs.Answers.{leg_of, told_written}
+use Rattle.std.specs.Prelude.{Some, None}
+use Rattle.poses.specs.Answers.{OptionalFoot, OptionalLegPositions}
+use Rattle.numbers.specs.Refusals.{number_of}
+use Rattle.numbers.specs.declared.refusal.Refusal.{Refusal}
+use Rattle.numbers.proofs.Numbers.{has_a_number}
+use Rattle.numbers.proofs.Admitted.{admitted, turned_back}
+use Rattle.poses.specs.Answers.{leg_of, given_length}
 use Rattle.poses.specs.Writing.{foot_finite, foot_permitted, pose_finite, pose_permitted, row_length, write_refused}
 use Rattle.poses.specs.Writing.{pose_text, to_json_told, row_after}
 use Rattle.numbers.proofs.Flags.{by_test}
@@ -49,8 +51,8 @@ module _ (p : Point) (h : permitted_point foot_limit p ≡ true) where
 
 -- ---- one pass
 foot_finite_lem : (f : OptionalFoot) → foot_permitted f ≡ true → foot_finite f ≡ true
-foot_finite_lem (Known f) h = in_foot_row f.point h
-foot_finite_lem Null h = refl
+foot_finite_lem (Some f) h = in_foot_row f.point h
+foot_finite_lem None h = refl
 
 pose_finite_lem : (p : OptionalLegPositions) → pose_permitted p ≡ true → pose_finite p ≡ true
 pose_finite_lem p = all_six (λ l. foot_permitted (leg_of p l)) (λ l. foot_finite (leg_of p l)) (λ l. foot_finite_lem (leg_of p l))
@@ -77,21 +79,21 @@ module _ (p : OptionalLegPositions) (n : ℕ) where
       absurd (omega arith))
 
 -- ---- the answer and the row
-module _ (p : OptionalLegPositions) (row : List ℕ) (k : ℕ) (is : k ≡ write_refused p (length row)) where
-  pub refused_told : (k ≡ 0 → ⊥) → (told_written (Refused k) ≡ to_json_told p (length row)) × (row ≡ row_after p row)
-  unfolding told_written to_json_told row_after
-  refused_told some =
-      let e : eqb (write_refused p (length row)) 0 ≡ false = ne_eqb (write_refused p (length row)) 0 (λ z. some (is ∙ z)) in (
-        ap refused is ∙ sym (ap (λ (b : Bool). choose b (given (length (pose_text p) ∷ []) []) (refused (write_refused p (length row)))) e),
+module _ (p : OptionalLegPositions) (row : List ℕ) where
+  pub refused_told : (r : Refusal) → number_of r ≡ write_refused p (length row)
+      → (refused (number_of r) ≡ to_json_told p (length row)) × (row ≡ row_after p row)
+  unfolding to_json_told row_after
+  refused_told r is =
+      let e : eqb (write_refused p (length row)) 0 ≡ false = sym (ap (λ (n : ℕ). eqb n 0) is) ∙ has_a_number r in (
+        turned_back r _ _ is,
         sym (ap (λ (b : Bool). choose b (sets row 0 (pose_text p)) row) e),
       )
 
-  pub written_told : k ≡ 0 → {r : ℕ} {after : List ℕ} → Stored row 0 (pose_text p) r after
-      → (told_written (Length r) ≡ to_json_told p (length row)) × (after ≡ row_after p row)
-  unfolding told_written to_json_told row_after
+  pub written_told : 0 ≡ write_refused p (length row) → {r : ℕ} {after : List ℕ} → Stored row 0 (pose_text p) r after
+      → (given_length r ≡ to_json_told p (length row)) × (after ≡ row_after p row)
+  unfolding to_json_told row_after
   written_told none stored =
-      let e : eqb (write_refused p (length row)) 0 ≡ true = eq-eqb (write_refused p (length row)) 0 (sym is ∙ none) in (
-        ap (λ (m : ℕ). given (m ∷ []) []) (stored.place ∙ zero-add (length (pose_text p)))
-            ∙ sym (ap (λ (b : Bool). choose b (given (length (pose_text p) ∷ []) []) (refused (write_refused p (length row)))) e),
+      let e : eqb (write_refused p (length row)) 0 ≡ true = eq-eqb (write_refused p (length row)) 0 (sym none) in (
+        admitted _ _ _ none (ap (λ (m : ℕ). given (m ∷ []) []) (stored.place ∙ zero-add (length (pose_text p)))),
         stored.bytes ∙ sym (ap (λ (b : Bool). choose b (sets row 0 (pose_text p)) row) e),
       )

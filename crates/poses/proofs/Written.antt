@@ -16,9 +16,8 @@ use Rattle.lines.proofs.Numerals.{length_numeral}
 use Rattle.legs.specs.Legs.{Leg, left_front, right_front, left_middle, right_middle, left_rear, right_rear}
 use Rattle.legs.specs.declared.Point.{Point}
 use Rattle.units.proofs.Door.{holds}
-use Rattle.poses.specs.declared.OptionalFoot.{OptionalFoot}
-use Rattle.poses.specs.declared.OptionalFoot.TheVariants.{Known, Null}
-use Rattle.poses.specs.declared.OptionalLegPositions.{OptionalLegPositions}
+use Rattle.std.specs.Prelude.{Some, None}
+use Rattle.poses.specs.Answers.{OptionalFoot, OptionalLegPositions}
 use Rattle.poses.specs.Decimals.{written_as}
 use Rattle.poses.specs.Json.{Number, Value, null, three, Member, Language, ◌then◌, is_digit, digits, digits_from, sign}
 use Rattle.poses.specs.Json.{Amount, number}
@@ -34,8 +33,8 @@ abbrev pub written_number : Float → Number
 written_number x = record { minus = is_minus x; parts = written_as x }
 
 abbrev pub written_value : OptionalFoot → Value
-written_value (Known f) = three (written_number f.point.x) (written_number f.point.y) (written_number f.point.z)
-written_value Null = null
+written_value (Some f) = three (written_number f.point.x) (written_number f.point.y) (written_number f.point.z)
+written_value None = null
 
 abbrev pub member_for : OptionalLegPositions → Leg → Member
 member_for p l = record { name = name_of l; value = written_value (leg_of p l) }
@@ -48,8 +47,8 @@ abbrev pub Few : Float → Type 0
 Few x = written_as x < 10 ^ 9
 
 abbrev pub FewParts : OptionalFoot → Type 0
-FewParts (Known f) = Few f.point.x × Few f.point.y × Few f.point.z
-FewParts Null = Unit
+FewParts (Some f) = Few f.point.x × Few f.point.y × Few f.point.z
+FewParts None = Unit
 
 -- ---- digits
 digit_below_ten : (d : ℕ) → d < 10 → digit d ≡ 48 + d
@@ -187,8 +186,8 @@ point_written f hx hy hz =
     (unblanked _ _ (behind (number (written_number f.z)) _ z _ (number_written f.z hz) (unblanked _ _ refl))))))))))))
 
 foot_written : (f : OptionalFoot) → FewParts f → value (written_value f) (foot_text f)
-foot_written (Known f) h = point_written f.point h.0 h.1 h.2
-foot_written Null h = refl
+foot_written (Some f) h = point_written f.point h.0 h.1 h.2
+foot_written None h = refl
 
 -- ---- a member, several, and the whole text
 member_written : (p : OptionalLegPositions) (l : Leg) → FewParts (leg_of p l) → member (member_for p l) (member_text l (leg_of p l))

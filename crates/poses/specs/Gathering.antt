@@ -1,27 +1,25 @@
 -- How ours gathers what the members say, member by member, in the structs of the code; nothing of the request.
-use Rattle.std.specs.Prelude.{ℕ, zero, suc, ◌-◌, Bool, true, false, not, ◌&&◌, ◌||◌, List, ◌++◌, length, take, drop, replicate, ◌==◌}
+use Rattle.std.specs.Prelude.{ℕ, zero, suc, ◌-◌, Bool, true, false, not, ◌&&◌, ◌||◌, List, [], ◌∷◌, length, take, drop, replicate, ◌==◌}
 use Rattle.std.specs.Prelude.{nat_eq, nat_lt, slice_index_or, slice_set}
-use Rattle.std.specs.Float.{nan}
+use Rattle.std.specs.Prelude.{Option, Some, None, is_some}
+use Rattle.std.specs.Option.{option_flatten}
 use Rattle.numbers.specs.Told.{choose}
+use Rattle.legs.specs.LegNumbers.{leg_number}
+use Rattle.legs.specs.declared.leg.Leg.{Leg}
+use Rattle.legs.specs.declared.leg.Leg.TheVariants.{LeftFront, RightFront, LeftMiddle, RightMiddle, LeftRear, RightRear}
 use Rattle.numbers.specs.Door.{unless}
-use Rattle.numbers.specs.Limits.{foot_limit}
-use Rattle.legs.specs.Legs.{origin, permitted_point}
 use Rattle.legs.specs.declared.Point.{Point}
-use Rattle.poses.specs.declared.OptionalFoot.{OptionalFoot}
-use Rattle.poses.specs.declared.OptionalFoot.TheVariants.{Known, Null}
-use Rattle.poses.specs.declared.OptionalLegPositions.{OptionalLegPositions}
+use Rattle.poses.specs.Answers.{OptionalFoot, OptionalLegPositions, six_legs}
 use Rattle.poses.specs.declared.values.Run.{Run}
 use Rattle.poses.specs.declared.values.NumberRead.{NumberRead}
-use Rattle.poses.specs.declared.values.Slot.{Slot}
 use Rattle.poses.specs.declared.values.ValueRead.{ValueRead}
 use Rattle.poses.specs.declared.object.MemberRead.{MemberRead}
 use Rattle.poses.specs.declared.object.Progress.{Progress}
 use Rattle.poses.specs.Decimals.{read_as}
-use Rattle.poses.specs.Json.{Value, null, three}
 use Rattle.poses.specs.How.{NumberAt, byte, past, token, run_of, amount_at, number_at, null_at, three_at, value_at, member_at}
-use Rattle.poses.specs.Names.{number, name_at, leg_named}
-use Rattle.poses.specs.Answers.{six_legs}
-use Rattle.poses.specs.Reading.{point_of}
+use Rattle.poses.specs.Names.{number, leg_named}
+use Rattle.poses.specs.Reading.{foot_of}
+use Rattle.poses.specs.Writing.{foot_permitted}
 
 -- ---- numbers and values
 abbrev pub run_read : ℕ → List ℕ → Run
@@ -36,38 +34,33 @@ amount_read minus s i = number_of (amount_at minus s i)
 abbrev pub number_read : List ℕ → ℕ → NumberRead
 number_read s i = number_of (number_at s i)
 
--- a leg that has no point: kind 0 has nothing yet, kind 1 null
-abbrev pub no_slot : ℕ → Slot
-no_slot kind = record { kind = kind; point = origin }
-
-abbrev pub slot_of : Value → Slot
-slot_of null = no_slot 1
-slot_of (three x y z) = record { kind = 2; point = point_of x y z }
+-- what a leg has: nothing yet, or what its member says
+abbrev pub Slot : Type 0
+Slot = Option OptionalFoot
 
 abbrev pub point_read : NumberRead → NumberRead → NumberRead → Point
 point_read x y z =
     record { x = read_as x.minus x.parts; y = read_as y.minus y.parts; z = read_as z.minus z.parts }
 
 abbrev pub null_read : List ℕ → ℕ → ValueRead
-null_read s i = record { slot = slot_of (null_at s i).value; next = (null_at s i).next }
+null_read s i = record { foot = foot_of (null_at s i).value; next = (null_at s i).next }
 
 abbrev pub three_read : List ℕ → ℕ → ValueRead
-three_read s i = record { slot = slot_of (three_at s i).value; next = (three_at s i).next }
+three_read s i = record { foot = foot_of (three_at s i).value; next = (three_at s i).next }
 
 abbrev pub value_read : List ℕ → ℕ → ValueRead
-value_read s i = record { slot = slot_of (value_at s i).value; next = (value_at s i).next }
+value_read s i = record { foot = foot_of (value_at s i).value; next = (value_at s i).next }
 
--- ---- names: padded to twelve bytes; the one leg whose name has so many bytes and begins with this one
-abbrev pub zeros : ℕ → List ℕ
-zeros n = replicate n 0
+-- ---- names: the leg of a number, and the number of a leg, 6 where there is none
+abbrev pub the_leg : ℕ → Option Leg
+the_leg k =
+    slice_index_or
+    (Some LeftFront ∷ Some RightFront ∷ Some LeftMiddle ∷ Some RightMiddle ∷ Some LeftRear ∷ Some RightRear ∷ [])
+    k None
 
-abbrev pub padded : ℕ → List ℕ
-padded k = let name = name_at (choose (nat_lt k 6) k 5) in name ++ zeros (12 - length name)
-
-abbrev pub likely : ℕ → ℕ → ℕ
-likely n first =
-    choose (first == 108) (choose (n == 10) 0 (choose (n == 11) 2 (choose (n == 9) 4 6)))
-    (choose (n == 11) 1 (choose (n == 12) 3 (choose (n == 10) 5 6)))
+abbrev pub number_or_6 : Option Leg → ℕ
+number_or_6 (Some leg) = leg_number leg
+number_or_6 None = 6
 
 unfoldable pub leg_between : List ℕ → ℕ → ℕ → ℕ
 leg_between s from end = leg_named (take (end - 1 - from) (drop from s))
@@ -76,24 +69,21 @@ leg_between s from end = leg_named (take (end - 1 - from) (drop from s))
 unfoldable pub member_read : List ℕ → ℕ → MemberRead
 member_read s i =
     let m = member_at s i in
-    record { leg = leg_named m.member.name; slot = slot_of m.member.value; next = m.next }
+    record { leg = the_leg (leg_named m.member.name); foot = foot_of m.member.value; next = m.next }
 
 -- ---- members
 abbrev pub has_value : Slot → Bool
-has_value slot = not (slot.kind == 0)
+has_value slot = is_some slot
 
--- the slot of a leg; what a read past the sixth stands for is never asked
-abbrev pub out_of_row : Slot
-out_of_row = record { kind = 0; point = record { x = nan; y = nan; z = nan } }
-
+-- the slot of a leg
 abbrev pub slot_at : List Slot → ℕ → Slot
-slot_at slots k = slice_index_or slots k out_of_row
+slot_at slots k = slice_index_or slots k None
 
 abbrev pub is_strange : List Slot → ℕ → Bool
 is_strange slots k = choose (nat_lt k 6) (has_value (slot_at slots k)) true
 
-abbrev pub placed : List Slot → ℕ → Slot → List Slot
-placed slots k slot = choose (nat_lt k 6) (slice_set slots k slot) slots
+abbrev pub placed : List Slot → ℕ → OptionalFoot → List Slot
+placed slots k foot = choose (nat_lt k 6) (slice_set slots k (Some foot)) slots
 
 unfoldable pub one_more : List ℕ → Progress → Progress
 unfolding member_read
@@ -103,13 +93,13 @@ one_more s p =
     record {
       at = token (choose comma 44 125) s m.next;
       due = comma;
-      outside = p.outside || not (permitted_point foot_limit m.slot.point);
-      strange = p.strange || is_strange p.slots m.leg;
-      slots = placed p.slots m.leg m.slot;
+      outside = p.outside || not (foot_permitted m.foot);
+      strange = p.strange || is_strange p.slots (number_or_6 m.leg);
+      slots = placed p.slots (number_or_6 m.leg) m.foot;
     }
 
 abbrev pub begun : ℕ → Bool → Progress
-begun at due = record { at = at; due = due; outside = false; strange = false; slots = replicate 6 (no_slot 0) }
+begun at due = record { at = at; due = due; outside = false; strange = false; slots = replicate 6 None }
 
 -- so many members at most
 unfoldable pub go_on : ℕ → List ℕ → Progress → Progress
@@ -138,7 +128,7 @@ progress_refused p n =
     (choose p.outside 2 (unless (not p.strange && is_complete p.slots) 14))
 
 abbrev pub foot_from : Slot → OptionalFoot
-foot_from slot = choose (slot.kind == 2) (Known (record { point = slot.point; lifted = false })) Null
+foot_from slot = option_flatten slot
 
 unfoldable pub pose_from : List Slot → OptionalLegPositions
 pose_from slots = six_legs (λ l. foot_from (slot_at slots (number l)))

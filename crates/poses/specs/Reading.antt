@@ -7,9 +7,8 @@ use Rattle.numbers.specs.Door.{unless, first_of}
 use Rattle.numbers.specs.Limits.{foot_limit}
 use Rattle.legs.specs.Legs.{Leg, every, permitted_point}
 use Rattle.legs.specs.declared.Point.{Point}
-use Rattle.poses.specs.declared.OptionalFoot.{OptionalFoot}
-use Rattle.poses.specs.declared.OptionalFoot.TheVariants.{Known, Null}
-use Rattle.poses.specs.declared.OptionalLegPositions.{OptionalLegPositions}
+use Rattle.std.specs.Prelude.{Some, None}
+use Rattle.poses.specs.Answers.{OptionalFoot, OptionalLegPositions}
 use Rattle.poses.specs.Decimals.{read_as}
 use Rattle.poses.specs.Json.{Number, Value, null, three, Member}
 use Rattle.poses.specs.Names.{number, leg_named}
@@ -25,8 +24,8 @@ point_of x y z = record { x = read_number x; y = read_number y; z = read_number 
 
 -- "JSON poses read as standing"
 abbrev pub foot_of : Value → OptionalFoot
-foot_of null = Null
-foot_of (three x y z) = Known (record { point = point_of x y z; lifted = false })
+foot_of null = None
+foot_of (three x y z) = Some (record { point = point_of x y z; lifted = false })
 
 -- ---- 2: a number, rounded, is outside -4 to 4, under whatever name
 abbrev pub inside : Value → Bool

@@ -12,9 +12,8 @@ use Rattle.lines.specs.Digits.{digit, numeral}
 use Rattle.lines.specs.Fields.{parted}
 use Rattle.legs.specs.Legs.{Leg, every, finite_point, permitted_point}
 use Rattle.legs.specs.declared.Point.{Point}
-use Rattle.poses.specs.declared.OptionalFoot.{OptionalFoot}
-use Rattle.poses.specs.declared.OptionalFoot.TheVariants.{Known, Null}
-use Rattle.poses.specs.declared.OptionalLegPositions.{OptionalLegPositions}
+use Rattle.std.specs.Prelude.{Some, None}
+use Rattle.poses.specs.Answers.{OptionalFoot, OptionalLegPositions}
 use Rattle.poses.specs.Decimals.{whole_decimals, written_as}
 use Rattle.poses.specs.Json.{null_word}
 use Rattle.poses.specs.Names.{name_of, fields}
@@ -41,8 +40,8 @@ unfolding number_text
 point_text p = 91 ∷ (parted 44 (number_text p.x ∷ number_text p.y ∷ number_text p.z ∷ []) ++ (93 ∷ []))
 
 abbrev pub foot_text : OptionalFoot → List ℕ
-foot_text (Known f) = point_text f.point
-foot_text Null = null_word
+foot_text (Some f) = point_text f.point
+foot_text None = null_word
 
 -- ---- a member, and the six in the source's field order
 unfoldable pub named_text : List ℕ → OptionalFoot → List ℕ
@@ -60,12 +59,12 @@ abbrev pub row_length : ℕ
 row_length = 512
 
 abbrev pub foot_finite : OptionalFoot → Bool
-foot_finite (Known f) = finite_point f.point
-foot_finite Null = true
+foot_finite (Some f) = finite_point f.point
+foot_finite None = true
 
 abbrev pub foot_permitted : OptionalFoot → Bool
-foot_permitted (Known f) = permitted_point foot_limit f.point
-foot_permitted Null = true
+foot_permitted (Some f) = permitted_point foot_limit f.point
+foot_permitted None = true
 
 abbrev pub pose_finite : OptionalLegPositions → Bool
 pose_finite p = every (λ l. foot_finite (leg_of p l))

@@ -29,7 +29,7 @@ fn nearest_bits(n: u64) -> u32
     ((k + more) * LEADING + ((q >> more) + 1) / 2) as u32
 }
 
-// The f32 nearest to n parts, with its sign: -0 where there are none of them.
+/// The f32 nearest to n parts, with its sign: -0 where there are none of them.
 pub fn read_as(minus: bool, n: u64) -> f32
     requires { n < 10 ^ 9 }
     ensures { result ≡ read_as minus n }
@@ -58,7 +58,7 @@ fn nearest_parts(b: u32) -> u64
     (p + (1u64 << (s - 1)) - 1 + q % 2) >> s
 }
 
-// The same of a float that a foot may have.
+/// The same of a float that a foot may have.
 pub fn written_as(x: f32) -> u64
     requires { T (permits foot_limit x) }
     ensures { result ≡ written_as x }

@@ -1,92 +1,59 @@
 // Names: the six, and any name of a text by its characters.
-ghost use Rattle.std.specs.Prelude.{◌≡◌, ◌+◌, ◌-◌, ◌<◌, ◌≤◌, length, take, drop};
+ghost use Rattle.std.specs.Prelude.{◌≡◌, ◌+◌, ◌<◌, ◌≤◌, length, drop};
 ghost use Rattle.poses.specs.Json.{is_hex, is_escape};
 ghost use Rattle.numbers.specs.Told.{choose};
 ghost use Rattle.poses.specs.How.{between, is_tail, many_where, escaped, wide, char_long, name_end};
+ghost use Rattle.legs.specs.LegNumbers.{leg_number};
 ghost use Rattle.poses.specs.Names.{name_at, same, leg_named};
-ghost use Rattle.poses.specs.Gathering.{padded, likely};
+ghost use Rattle.poses.specs.Gathering.{the_leg};
 
 use crate::text;
+use legs::Leg;
 
-// The name of a leg, by its number in row order, padded to twelve bytes. Any other number has the last one's.
-pub fn name_of(leg: u32) -> [u8; 12]
-    ensures { result ≡ padded leg }
+/// The name of a leg.
+pub fn name_of(leg: Leg) -> &'static [u8]
+    ensures { result.now ≡ name_at (leg_number leg) }
 {
     match leg {
-        0 => *b"left_front\0\0",
-        1 => *b"right_front\0",
-        2 => *b"left_middle\0",
-        3 => *b"right_middle",
-        4 => *b"left_rear\0\0\0",
-        _ => *b"right_rear\0\0",
+        Leg::LeftFront => b"left_front",
+        Leg::RightFront => b"right_front",
+        Leg::LeftMiddle => b"left_middle",
+        Leg::RightMiddle => b"right_middle",
+        Leg::LeftRear => b"left_rear",
+        Leg::RightRear => b"right_rear",
     }
 }
 
-// How many bytes it has.
-pub fn length_of(leg: u32) -> usize
-    ensures { result ≡ length (name_at leg) }
+// Whether a leg has a name.
+fn is_named(name: &[u8], leg: Leg) -> bool
+    ensures { result ≡ same name.now (name_at (leg_number leg)) }
 {
-    match leg {
-        0 => 10,
-        1 => 11,
-        2 => 11,
-        3 => 12,
-        4 => 9,
-        5 => 10,
-        _ => 0,
-    }
+    name == name_of(leg)
 }
 
-// The one leg whose name may have so many bytes and begin with this one; 6 where there is none.
-fn likely(n: usize, first: u8) -> u32
-    ensures { result ≡ likely n first }
+/// The leg that has a name.
+pub fn leg_named(name: &[u8]) -> Option<Leg>
+    ensures { result ≡ the_leg (leg_named name.now) }
 {
-    if first == b'l' {
-        return match n {
-            10 => 0,
-            11 => 2,
-            9 => 4,
-            _ => 6,
-        };
+    if is_named(name, Leg::LeftFront) {
+        return Some(Leg::LeftFront);
     }
-    match n {
-        11 => 1,
-        12 => 3,
-        10 => 5,
-        _ => 6,
+    if is_named(name, Leg::RightFront) {
+        return Some(Leg::RightFront);
     }
-}
-
-// Whether the n bytes from a place on are the first n of these.
-fn is_same(s: &[u8], from: usize, bytes: [u8; 12], n: usize) -> bool
-    requires { (from + n ≤ length s.now) × (n ≤ 12) }
-    ensures { result ≡ same (take n (drop from s.now)) (take n bytes) }
-{
-    let mut i: usize = 0;
-    while i < n {
-        if s[from + i] != bytes[i] {
-            return false;
-        }
-        i += 1;
+    if is_named(name, Leg::LeftMiddle) {
+        return Some(Leg::LeftMiddle);
     }
-    true
-}
-
-// The leg of the name between two places, by its number in row order; 6 where no leg has it.
-pub fn leg_named(s: &[u8], from: usize, to: usize) -> u32
-    requires { (from ≤ to) × (to ≤ length s.now) }
-    ensures { result ≡ leg_named (take (to - from) (drop from s.now)) }
-{
-    let n = to - from;
-    let leg = likely(n, text::byte_at(s, from));
-    if leg == 6 {
-        return 6;
+    if is_named(name, Leg::RightMiddle) {
+        return Some(Leg::RightMiddle);
     }
-    if is_same(s, from, name_of(leg), n) {
-        leg
-    } else {
-        6
+    if is_named(name, Leg::LeftRear) {
+        return Some(Leg::LeftRear);
     }
+    if is_named(name, Leg::RightRear) {
+        return Some(Leg::RightRear);
+    }
+    None
 }
 
 // A byte behind the first of a character.
@@ -192,11 +159,12 @@ fn char_long(s: &[u8], i: usize) -> usize
     wide(a, b, c, d)
 }
 
-// The place behind the quote that closes the name whose first byte stands at a place.
+/// The place behind the quote that closes the name whose first byte stands at a place.
 pub fn name_end(s: &[u8], from: usize) -> usize
     ensures { (result ≡ name_end s.now from) × (result ≤ length s.now + 1) }
 {
     let mut i = from;
+    // Kept: a `for` is no plainer here: each step goes over a whole character, of one to six bytes.
     while i < s.len() {
         if s[i] == b'"' {
             return i + 1;

@@ -1,17 +1,17 @@
 // A pose's text, stored into a lent row from a place on; each function gives the place after what it stored.
-ghost use Rattle.std.specs.Prelude.{◌≡◌, ◌+◌, ◌%◌, ◌^◌, ◌<◌, ◌≤◌, true, T, [], ◌∷◌, ◌++◌, length, take};
+ghost use Rattle.std.specs.Prelude.{◌≡◌, ◌+◌, ◌%◌, ◌^◌, ◌<◌, ◌≤◌, true, T, [], ◌∷◌, ◌++◌, length};
 ghost use Rattle.numbers.specs.Door.{permits};
 ghost use Rattle.numbers.specs.Limits.{foot_limit};
 ghost use Rattle.legs.specs.Legs.{permitted_point};
 ghost use Rattle.lines.specs.Digits.{digit, numeral};
 ghost use Rattle.numbers.specs.Stored.{Stored};
-ghost use Rattle.poses.specs.Json.{null_word};
+ghost use Rattle.legs.specs.LegNumbers.{leg_number};
 ghost use Rattle.poses.specs.Names.{name_at};
 ghost use Rattle.poses.specs.Writing.{minus_text, parts_text, number_text, point_text, foot_text, named_text, pose_text};
 ghost use Rattle.poses.specs.Writing.{foot_permitted, pose_permitted};
 
 use crate::{OptionalFoot, OptionalLegPositions, decimals, names};
-use legs::Point;
+use legs::{Leg, Point};
 
 // One byte.
 fn byte(row: &mut [u8], at: usize, b: u8) -> usize
@@ -30,6 +30,7 @@ fn digit(n: u32) -> u8
 }
 
 // Eight digits.
+// Kept: a loop is no plainer: eight stores at known places need no invariant, and no division more.
 fn eight(row: &mut [u8], at: usize, n: u32) -> usize
     requires { at + 8 ≤ length row.old }
     ensures { Stored row.old at (numeral 10 8 n) result row.new }
@@ -96,16 +97,14 @@ fn point(row: &mut [u8], at: usize, p: Point) -> usize
     byte(row, z, b']')
 }
 
-// null.
-fn null(row: &mut [u8], at: usize) -> usize
-    requires { at + 4 ≤ length row.old }
-    ensures { Stored row.old at null_word result row.new }
+// These bytes.
+fn bytes(row: &mut [u8], at: usize, text: &[u8]) -> usize
+    requires { at + length text.now ≤ length row.old }
+    ensures { Stored row.old at text.now result row.new }
 {
-    row[at] = b'n';
-    row[at + 1] = b'u';
-    row[at + 2] = b'l';
-    row[at + 3] = b'l';
-    at + 4
+    let end = at + text.len();
+    row[at..end].copy_from_slice(text);
+    end
 }
 
 // A foot or null. Its mark is not written.
@@ -114,61 +113,42 @@ fn foot(row: &mut [u8], at: usize, f: OptionalFoot) -> usize
     ensures { Stored row.old at (foot_text f) result row.new × (result ≤ at + 37) }
 {
     match f {
-        OptionalFoot::Known(foot) => point(row, at, foot.point),
-        OptionalFoot::Null => null(row, at),
+        Some(foot) => point(row, at, foot.point),
+        None => bytes(row, at, b"null"),
     }
-}
-
-// The first n of twelve bytes.
-fn bytes(row: &mut [u8], at: usize, bytes: [u8; 12], n: usize) -> usize
-    requires { (at + n ≤ length row.old) × (n ≤ 12) }
-    ensures { Stored row.old at (take n bytes) result row.new }
-{
-    let mut i: usize = 0;
-    while i < n {
-        row[at + i] = bytes[i];
-        i += 1;
-    }
-    at + n
 }
 
 // A leg's name, quoted, a colon, and its value.
-fn member(row: &mut [u8], at: usize, leg: u32, f: OptionalFoot) -> usize
-    requires { (at + 52 ≤ length row.old) × (leg < 6) × (foot_permitted f ≡ true) }
-    ensures { Stored row.old at (named_text (name_at leg) f) result row.new × (result ≤ at + 52) }
+fn member(row: &mut [u8], at: usize, leg: Leg, f: OptionalFoot) -> usize
+    requires { (at + 52 ≤ length row.old) × (foot_permitted f ≡ true) }
+    ensures { Stored row.old at (named_text (name_at (leg_number leg)) f) result row.new × (result ≤ at + 52) }
 {
     let a = byte(row, at, b'"');
-    let b = bytes(row, a, names::name_of(leg), names::length_of(leg));
+    let b = bytes(row, a, names::name_of(leg));
     let c = byte(row, b, b'"');
     let d = byte(row, c, b':');
     foot(row, d, f)
 }
 
 // A member and what stands behind it: a comma, or what closes the object.
-fn closed(row: &mut [u8], at: usize, leg: u32, f: OptionalFoot, b: u8) -> usize
-    requires { (at + 53 ≤ length row.old) × (leg < 6) × (foot_permitted f ≡ true) }
-    ensures { Stored row.old at (named_text (name_at leg) f ++ (b ∷ [])) result row.new × (result ≤ at + 53) }
+fn closed(row: &mut [u8], at: usize, leg: Leg, f: OptionalFoot, b: u8) -> usize
+    requires { (at + 53 ≤ length row.old) × (foot_permitted f ≡ true) }
+    ensures { Stored row.old at (named_text (name_at (leg_number leg)) f ++ (b ∷ [])) result row.new × (result ≤ at + 53) }
 {
     let a = member(row, at, leg, f);
     byte(row, a, b)
 }
 
-// The whole object, in the source's field order.
+/// The whole object, in the source's field order.
 pub fn pose(row: &mut [u8], p: OptionalLegPositions) -> usize
     requires { (length row.old ≡ 512) × (pose_permitted p ≡ true) }
     ensures { Stored row.old 0 (pose_text p) result row.new }
 {
-    let left_front = p.left_front;
-    let left_middle = p.left_middle;
-    let left_rear = p.left_rear;
-    let right_front = p.right_front;
-    let right_middle = p.right_middle;
-    let right_rear = p.right_rear;
     let a = byte(row, 0, b'{');
-    let b = closed(row, a, 0, left_front, b',');
-    let c = closed(row, b, 2, left_middle, b',');
-    let d = closed(row, c, 4, left_rear, b',');
-    let e = closed(row, d, 1, right_front, b',');
-    let f = closed(row, e, 3, right_middle, b',');
-    closed(row, f, 5, right_rear, b'}')
+    let b = closed(row, a, Leg::LeftFront, p.left_front, b',');
+    let c = closed(row, b, Leg::LeftMiddle, p.left_middle, b',');
+    let d = closed(row, c, Leg::LeftRear, p.left_rear, b',');
+    let e = closed(row, d, Leg::RightFront, p.right_front, b',');
+    let f = closed(row, e, Leg::RightMiddle, p.right_middle, b',');
+    closed(row, f, Leg::RightRear, p.right_rear, b'}')
 }

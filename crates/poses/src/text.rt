@@ -3,14 +3,14 @@ ghost use Rattle.std.specs.Prelude.{◌≡◌, ◌<◌};
 ghost use Rattle.poses.specs.Json.{is_blank};
 ghost use Rattle.poses.specs.How.{byte, nowhere, past, after, token};
 
-// The byte at a place, 0 where there is none.
+/// The byte at a place, 0 where there is none.
 pub fn byte_at(s: &[u8], i: usize) -> u8
     ensures { result ≡ byte s.now i }
 {
     if i < s.len() { s[i] } else { 0 }
 }
 
-// The first place past the end.
+/// The first place past the end.
 pub fn nowhere(s: &[u8]) -> usize
     ensures { result ≡ nowhere s.now }
 {
@@ -24,21 +24,19 @@ fn is_blank(b: u8) -> bool
     (b == 32) | (b == 9) | (b == 10) | (b == 13)
 }
 
-// The place behind the blanks from a place on.
+/// The place behind the blanks from a place on.
 pub fn past(s: &[u8], from: usize) -> usize
     ensures { result ≡ past s.now from }
 {
-    let mut i = from;
-    while i < s.len() {
+    for i in from..s.len() {
         if !is_blank(s[i]) {
             return i;
         }
-        i += 1;
     }
-    i
+    from.max(s.len())
 }
 
-// The place behind the byte c, which is due here.
+/// The place behind the byte c, which is due here.
 pub fn after(s: &[u8], i: usize, c: u8) -> usize
     requires { 0 < c }
     ensures { result ≡ after c s.now i }
@@ -50,7 +48,7 @@ pub fn after(s: &[u8], i: usize, c: u8) -> usize
     }
 }
 
-// The place behind it and the blanks after it.
+/// The place behind it and the blanks after it.
 pub fn token(s: &[u8], i: usize, c: u8) -> usize
     requires { 0 < c }
     ensures { result ≡ token c s.now i }

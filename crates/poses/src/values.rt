@@ -1,41 +1,35 @@
 // Numbers and values, read from a place of a text on.
 ghost use Rattle.std.specs.Prelude.{◌≡◌, ◌+◌, ◌^◌, ◌<◌, ◌≤◌, length, drop};
 ghost use Rattle.poses.specs.Json.{is_digit};
-ghost use Rattle.poses.specs.Gathering.{run_read, amount_read, number_read, no_slot, null_read, three_read, value_read, point_read};
+ghost use Rattle.poses.specs.Gathering.{run_read, amount_read, number_read, null_read, three_read, value_read, point_read};
 
-use crate::{decimals, text};
+use crate::{OptionalFoot, decimals, text};
 use legs::Point;
 
-// Digits behind a point: the number with them, in hundred-millionths, and how many there are.
-#[derive(Clone, Copy)]
+/// Digits behind a point: the number with them, in hundred-millionths, and how many there are.
+#[derive(Clone, Copy, Debug, PartialEq, Eq)]
 pub struct Run {
     pub parts: u64,
     pub taken: usize,
 }
 
-// A number, and the place behind it.
-#[derive(Clone, Copy)]
+/// A number, and the place behind it.
+#[derive(Clone, Copy, Debug, PartialEq, Eq)]
 pub struct NumberRead {
     pub minus: bool,
     pub parts: u64,
     pub next: usize,
 }
 
-// What a leg has: nothing yet (0), null (1), or a point (2).
-#[derive(Clone, Copy)]
-pub struct Slot {
-    pub kind: u32,
-    pub point: Point,
-}
-
-// A value, and the place behind it.
-#[derive(Clone, Copy)]
+/// A value, and the place behind it. A foot that is read stands.
+#[derive(Clone, Copy, Debug, PartialEq)]
 pub struct ValueRead {
-    pub slot: Slot,
+    pub foot: OptionalFoot,
     pub next: usize,
 }
 
 // 10^k.
+// Kept: `pow` would be no plainer for the reader of a number: nine cases are all that there are, and none multiplies.
 fn power(k: usize) -> u64
     requires { k ≤ 8 }
     ensures { result ≡ 10 ^ k }
@@ -66,8 +60,7 @@ fn run_of(s: &[u8], from: usize, first: u64) -> Run
     ensures { (result ≡ run_read first (drop from s.now)) × (result.parts < 10 ^ 9) × (result.taken ≤ 8) }
 {
     let mut n = first;
-    let mut k: usize = 0;
-    while k < 8 {
+    for k in 0..8 {
         let b = text::byte_at(s, from + k);
         if !is_digit(b) {
             return Run {
@@ -76,7 +69,6 @@ fn run_of(s: &[u8], from: usize, first: u64) -> Run
             };
         }
         n = n * 10 + (b - 48) as u64;
-        k += 1;
     }
     Run { parts: n, taken: 8 }
 }
@@ -118,25 +110,6 @@ fn number(s: &[u8], i: usize) -> NumberRead
     }
 }
 
-// What is there before anything is read.
-pub fn no_slot() -> Slot
-    ensures { result ≡ no_slot 0 }
-{
-    slot_without(0)
-}
-
-// A leg that has no point.
-fn slot_without(kind: u32) -> Slot
-    ensures { result ≡ no_slot kind }
-{
-    let point = Point {
-        x: 0.0,
-        y: 0.0,
-        z: 0.0,
-    };
-    Slot { kind, point }
-}
-
 // null
 fn null_at(s: &[u8], i: usize) -> ValueRead
     ensures { result ≡ null_read s.now i }
@@ -145,7 +118,7 @@ fn null_at(s: &[u8], i: usize) -> ValueRead
     let u = text::after(s, n, b'u');
     let l = text::after(s, u, b'l');
     ValueRead {
-        slot: slot_without(1),
+        foot: None,
         next: text::after(s, l, b'l'),
     }
 }
@@ -172,12 +145,12 @@ fn three_at(s: &[u8], i: usize) -> ValueRead
     let next = text::after(s, text::past(s, z.next), b']');
     let point = point_read(x, y, z);
     ValueRead {
-        slot: Slot { kind: 2, point },
+        foot: Some(legs::unchecked::foot_at(point, false)),
         next,
     }
 }
 
-// null, or a list of three numbers.
+/// null, or a list of three numbers.
 pub fn value_at(s: &[u8], i: usize) -> ValueRead
     ensures { result ≡ value_read s.now i }
 {

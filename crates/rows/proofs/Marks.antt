@@ -7,7 +7,7 @@ use Rattle.legs.specs.Legs.{Leg, foot, lifted, whole, nowhere}
 use Rattle.legs.specs.Masks.{has}
 use Rattle.legs.specs.Update.{place, updated}
 use Rattle.legs.specs.declared.Foot.{Foot}
-use Rattle.legs.specs.declared.Feet.{Feet}
+use Rattle.legs.specs.Legs.{Feet}
 use Rattle.legs.proofs.Laws.{whole_of_feet}
 use Rattle.legs.proofs.Marks.{of_chosen}
 

@@ -1,19 +1,16 @@
 -- What a count tells of the number that is counted: 0 that it is outside the table, 1 that it is below 2 ^ -12, and any other that it is
 -- neither. Assumes nothing.
-use Rattle.std.specs.Prelude.{◌≡◌, ℕ, ◌+◌, ◌-◌, ◌*◌, ◌/◌, ◌%◌, ◌^◌, ◌<◌, ◌≤◌, Bool, true, false, cond, T, ltb}
-use mathlib.Core.Path.{refl, sym, ap, ◌∙◌, subst}
+use Rattle.std.specs.Prelude.{◌≡◌, ℕ, ◌+◌, ◌-◌, ◌/◌, ◌%◌, ◌^◌, ◌<◌, ◌≤◌, Bool, true, false, cond, T, ltb}
+use mathlib.Core.Path.{refl, sym, ◌∙◌, subst}
 use native.Mathlib.Nat.{mul-le-mul}
 use native.Mathlib.Omega.{arith}
 use borrow.Author.Tests.{ltb-true, ltb-false, lt-ltb, le-ltb}
-use lib.Dec.{lit≤}
 use lib.Pow.{pow_pos}
-use lib.Ieee.{Float, binary32, fits, to_bits}
-use lib.Ieee.Bits.{is_true}
+use lib.Ieee.{Float, binary32, to_bits}
 use Rattle.numbers.specs.Door.{permits}
 use Rattle.numbers.specs.Limits.{sine_argument}
 use Rattle.units.specs.Patterns.{bare}
-use Rattle.sines.specs.How.{sixteen, tiny_bits, fixed, count}
-use Rattle.sines.proofs.Values.{fixed_le, most_bits}
+use Rattle.sines.specs.How.{tiny_bits, fixed, count}
 
 -- no number from 2 ^ -12 on is counted by 0 or 1
 fixed_above : (m : ℕ) → 1 < fixed m

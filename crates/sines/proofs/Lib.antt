@@ -7,10 +7,10 @@ mod Turn
 mod Whole
 mod Differences
 mod SignedSums
-mod Filled
 mod Counts
 pub mod Unrounded
 pub mod Sharp
 pub mod Fits
 pub mod Bands
 pub mod Examples
+mod Filled

@@ -1,13 +1,13 @@
 -- The two sums of products in signed numbers: no step passes 63 bits, and with the surplus each comes to the natural number that
 -- `sine_sum` and `cosine_sum` name. Assumes nothing.
-use Rattle.std.specs.Prelude.{◌≡◌, ℕ, ◌+◌, ◌-◌, ◌*◌, ◌/◌, ◌^◌, ◌<◌, ◌≤◌, T, ℤ, pos, ◌+ℤ◌, ◌-ℤ◌, ◌*ℤ◌, nat_abs}
-use mathlib.Core.Path.{refl, sym, ap, ◌∙◌, subst}
+use Rattle.std.specs.Prelude.{◌≡◌, ℕ, ◌+◌, ◌-◌, ◌*◌, ◌/◌, ◌^◌, ◌≤◌, T, ℤ, pos, ◌+ℤ◌, ◌-ℤ◌, ◌*ℤ◌, nat_abs}
+use mathlib.Core.Path.{sym, ap, ◌∙◌, subst}
 use native.Mathlib.Nat.{mul-le-mul, add-le-add, lt_of_le_of_lt}
 use native.Mathlib.Omega.{arith}
 use lib.Dec.{lit<, lit≤}
 use lib.Signed.{shr_z, mag_shr, non_neg}
 use mir.Syntax.{w64}
-use mir.Val.{Fits, SFits, to_z, of_z}
+use mir.Val.{Fits, SFits, to_z}
 use mir.Facts.{to_z-of_z}
 use Rattle.sines.specs.How.{table_one, rest_one, line_factor, result_unit, surplus, sine_sum, cosine_sum}
 use Rattle.sines.proofs.Differences.{Is, moved, sum_is, difference_is, product_is, fits, read, read_is, whole, share_is}

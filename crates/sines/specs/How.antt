@@ -1,7 +1,7 @@
 -- How ours computes sine and cosine, in whole numbers: nothing of document 01. Outside the table of permitted numbers the cores give +0.
 -- Each whole number counts a unit: the argument 2 ^ -35, an entry of the tables 2 ^ -30, what is computed of the rest 2 ^ -32, a product
 -- of these two 2 ^ -62, the result 2 ^ -24.
-use Rattle.std.specs.Prelude.{◌≡◌, ℕ, ◌+◌, ◌-◌, ◌*◌, ◌/◌, ◌%◌, ◌^◌, ◌≤◌, Bool, false, cond, pos, negsuc, ◌-ℤ◌, nat_lt, to_bits}
+use Rattle.std.specs.Prelude.{ℕ, ◌+◌, ◌-◌, ◌*◌, ◌/◌, ◌%◌, ◌^◌, Bool, false, cond, pos, negsuc, ◌-ℤ◌, nat_lt, to_bits}
 use Rattle.std.specs.Prelude.{Float}
 use Rattle.std.specs.Float.{fin, binary32}
 use Rattle.std.specs.Float.Ieee.{mul, neg, of_int}

@@ -12,11 +12,8 @@ fn counts(x: [f32; 18]) -> [u64; 18]
     ensures { (result ≡ map count x) × ((k : ℕ) → k < 18 → slice_index result k ≤ sixteen) }
 {
     let mut o: [u64; 18] = [0; 18];
-    let mut i: u32 = 0;
-    while i < 18 {
-        let n = unchecked::count_of(x[i as usize]);
-        o[i as usize] = n;
-        i += 1;
+    for i in 0..18 {
+        o[i] = unchecked::count_of(x[i]);
     }
     o
 }
@@ -27,16 +24,13 @@ fn entries(n: [u64; 18]) -> [Eighths; 18]
     ensures { result ≡ map entry_at n }
 {
     let mut o: [Eighths; 18] = [Eighths(0, 0); 18];
-    let mut i: u32 = 0;
-    while i < 18 {
-        let e = fixed::entry_of(n[i as usize]);
-        o[i as usize] = e;
-        i += 1;
+    for i in 0..18 {
+        o[i] = fixed::entry_of(n[i]);
     }
     o
 }
 
-// Sine and cosine of each.
+/// Sine and cosine of each.
 pub fn turns(x: [f32; 18]) -> [Turn; 18]
     ensures { result ≡ map turn x }
 {
@@ -46,12 +40,9 @@ pub fn turns(x: [f32; 18]) -> [Turn; 18]
         sine: 0.0,
         cosine: 0.0,
     }; 18];
-    let mut i: u32 = 0;
-    while i < 18 {
-        let both = fixed::both_at(n[i as usize], at[i as usize].0, at[i as usize].1);
-        let t = unchecked::turned(x[i as usize], n[i as usize], both);
-        o[i as usize] = t;
-        i += 1;
+    for i in 0..18 {
+        let both = fixed::both_at(n[i], at[i].0, at[i].1);
+        o[i] = unchecked::turned(x[i], n[i], both);
     }
     o
 }

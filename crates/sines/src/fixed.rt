@@ -39,7 +39,7 @@ const CUBE_FACTOR: u64 = REST_ONE / 3072;
 
 const FIFTH_FACTOR: u64 = REST_ONE / 3932160;
 
-// The magnitude of an f32 from 2^-12 to 16 in units of 2^-35, from its bits without the sign.
+/// The magnitude of an f32 from 2^-12 to 16 in units of 2^-35, from its bits without the sign.
 pub fn fixed_of(m: u32) -> u64
     requires { (tiny_bits ≤ m) × (m ≤ sixteen_bits) }
     ensures { (result ≡ fixed m) × (result ≤ sixteen) }
@@ -97,14 +97,14 @@ fn cosine_sum(s: u32, c: u32, a: u64, b: u64) -> u64
     (((v * a as i64 - u * b as i64 + HALF_RESULT_UNIT) >> 38) + SURPLUS) as u64
 }
 
-// A sine and a cosine in units of 2^-24, plus the surplus.
+/// A sine and a cosine in units of 2^-24, plus the surplus.
 #[derive(Clone, Copy)]
 pub struct Pair {
     pub sine: u64,
     pub cosine: u64,
 }
 
-// What the table has at the whole eighths of x in units of 2^-35, up to 16.
+/// What the table has at the whole eighths of x in units of 2^-35, up to 16.
 pub fn entry_of(x: u64) -> table::Eighths
     requires { x ≤ sixteen }
     ensures { result ≡ entry_at x }
@@ -112,7 +112,7 @@ pub fn entry_of(x: u64) -> table::Eighths
     table::entry((x / EIGHTH) as u32)
 }
 
-// Both of x in units of 2^-35, up to 16, by what the table has at its whole eighths.
+/// Both of x in units of 2^-35, up to 16, by what the table has at its whole eighths.
 pub fn both_at(x: u64, s: u32, c: u32) -> Pair
     requires { (x ≤ sixteen) × (s ≡ sine_entry (eighths x)) × (c ≡ cosine_entry (eighths x)) }
     ensures { (result.sine ≡ fixed_sine x) × (result.cosine ≡ fixed_cosine x) }
@@ -127,7 +127,7 @@ pub fn both_at(x: u64, s: u32, c: u32) -> Pair
     }
 }
 
-// So many of the last place, from a number with the surplus.
+/// So many of the last place, from a number with the surplus.
 pub fn counted(last_place: f32, w: u64) -> f32
     requires { (surplus - result_one ≤ w) × (w ≤ surplus + result_one) }
     ensures { result ≡ counted last_place w }

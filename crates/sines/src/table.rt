@@ -7,7 +7,7 @@ ghost use Rattle.sines.specs.How.{sine_entry, cosine_entry};
 #[derive(Clone, Copy)]
 pub struct Eighths(pub u32, pub u32);
 
-// Sine and cosine of j eighths.
+/// Sine and cosine of j eighths.
 pub fn entry(j: u32) -> Eighths
     requires { j < 129 }
     ensures { (result.0 ≡ sine_entry j) × (result.1 ≡ cosine_entry j) }

@@ -5,7 +5,7 @@ ghost use Rattle.numbers.specs.Door.{permits};
 ghost use Rattle.numbers.specs.Limits.{sine_argument};
 ghost use Rattle.units.specs.Patterns.{sign_set};
 ghost use Rattle.sines.specs.How.{sixteen, count, fixed_sine, fixed_cosine, last_place};
-ghost use Rattle.sines.specs.How.{sine, cosine, inside_sine, inside_cosine, turn};
+ghost use Rattle.sines.specs.How.{sine, cosine, turn};
 ghost use Rattle.sines.specs.Bands.{SineOf, CosineOf};
 
 use crate::fixed;
@@ -18,7 +18,7 @@ pub(crate) fn permitted(x: f32) -> bool
     door::is_permitted(limits::sine_argument(), x)
 }
 
-// The sine of x radians.
+/// The sine of x radians.
 pub fn sine(x: f32) -> f32
     ensures exact { result ≡ sine x }
     ensures band { T (permits sine_argument x) → SineOf x result }
@@ -26,7 +26,7 @@ pub fn sine(x: f32) -> f32
     if permitted(x) { inside_sine(x) } else { 0.0 }
 }
 
-// The cosine of x radians.
+/// The cosine of x radians.
 pub fn cosine(x: f32) -> f32
     ensures exact { result ≡ cosine x }
     ensures band { T (permits sine_argument x) → CosineOf x result }
@@ -34,14 +34,14 @@ pub fn cosine(x: f32) -> f32
     if permitted(x) { inside_cosine(x) } else { 0.0 }
 }
 
-// The sine and the cosine of one angle.
+/// The sine and the cosine of one angle.
 #[derive(Clone, Copy)]
 pub struct Turn {
     pub sine: f32,
     pub cosine: f32,
 }
 
-// Both of x radians.
+/// Both of x radians.
 pub fn sine_and_cosine(x: f32) -> Turn
     ensures { (result.sine ≡ sine x) × (result.cosine ≡ cosine x) }
 {
@@ -67,7 +67,7 @@ fn last_place_of(b: u32) -> f32
 // Below 2^-12 (pattern 0x3980_0000) the sine is x itself, nearer than 2^-38. S is odd.
 pub(crate) fn inside_sine(x: f32) -> f32
     requires { T (permits sine_argument x) }
-    ensures { result ≡ inside_sine x }
+    ensures { result ≡ sine x }
 {
     let b = f32::to_bits(x);
     let m = b % 0x8000_0000;
@@ -82,7 +82,7 @@ pub(crate) fn inside_sine(x: f32) -> f32
 // Below 2^-12 the cosine is 1, nearer than 2^-25. C is even.
 pub(crate) fn inside_cosine(x: f32) -> f32
     requires { T (permits sine_argument x) }
-    ensures { result ≡ inside_cosine x }
+    ensures { result ≡ cosine x }
 {
     let m = f32::to_bits(x) % 0x8000_0000;
     if m < 0x3980_0000 {
@@ -94,6 +94,7 @@ pub(crate) fn inside_cosine(x: f32) -> f32
 }
 
 // x as a count of 2^-35; below 2^-12 it is 1, which no other number has, and outside the table 0.
+// Kept: a number for each case and no enum: it is the definition `count`, and eighteen of them are a row that vectors take.
 pub(crate) fn count_of(x: f32) -> u64
     ensures { (result ≡ count x) × (result ≤ sixteen) }
 {

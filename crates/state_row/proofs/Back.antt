@@ -21,8 +21,8 @@ use Rattle.legs.specs.Legs.{every, coordinates, joints_of, finite_point, finite_
 use Rattle.legs.specs.Answers.{lifts}
 use Rattle.legs.specs.declared.Point.{Point}
 use Rattle.legs.specs.declared.Foot.{Foot}
-use Rattle.legs.specs.declared.Feet.{Feet}
-use Rattle.legs.specs.declared.Joints.{Joints}
+use Rattle.legs.specs.Legs.{Feet}
+use Rattle.legs.specs.Legs.{Joints}
 use Rattle.legs.proofs.OneAnswer.{marks_back}
 use Rattle.legs.proofs.OnePass.{each_true}
 use Rattle.commands.specs.Answers.{tripod_mark, command_values}
@@ -130,12 +130,15 @@ state_from xs g nanoseconds seconds =
                   femur_offset = get_or xs 79 nan;
                   tibia_offset = get_or xs 80 nan;
                 };
-            left_front = leg_from xs 81;
-            right_front = leg_from xs 87;
-            left_middle = leg_from xs 93;
-            right_middle = leg_from xs 99;
-            left_rear = leg_from xs 105;
-            right_rear = leg_from xs 111;
+            legs =
+                record {
+                  left_front = leg_from xs 81;
+                  right_front = leg_from xs 87;
+                  left_middle = leg_from xs 93;
+                  right_middle = leg_from xs 99;
+                  left_rear = leg_from xs 105;
+                  right_rear = leg_from xs 111;
+                };
           };
     }
 

@@ -4,7 +4,7 @@ use Rattle.numbers.specs.Door.{finite}
 use Rattle.numbers.proofs.OnePass.{and_left, and_right}
 use Rattle.legs.specs.Legs.{Leg, angles, every, finite_point, finite_feet}
 use Rattle.legs.specs.declared.LegAngles.{LegAngles}
-use Rattle.legs.specs.declared.Joints.{Joints}
+use Rattle.legs.specs.Legs.{Joints}
 use Rattle.legs.proofs.OnePass.{each_true}
 use Rattle.commands.specs.Command.{finite_command}
 use Rattle.commands.specs.declared.MoveCommand.{MoveCommand}

@@ -2,3 +2,4 @@ pub mod Finite
 pub mod Storing
 pub mod Back
 pub mod Parts
+pub mod Flags

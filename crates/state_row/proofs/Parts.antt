@@ -3,7 +3,7 @@
 use Rattle.std.specs.Prelude.{◌≡◌, ℕ, List}
 use mathlib.Core.Path.{refl}
 use Rattle.legs.specs.Legs.{points}
-use Rattle.legs.specs.declared.Feet.{Feet}
+use Rattle.legs.specs.Legs.{Feet}
 use Rattle.commands.specs.declared.MoveCommand.{MoveCommand}
 use Rattle.commands.specs.declared.Tripod.{Tripod}
 use Rattle.packed.specs.Packed.{feet_in}

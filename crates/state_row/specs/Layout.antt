@@ -9,8 +9,8 @@ use Rattle.std.specs.Prelude.{Float}
 use Rattle.numbers.specs.Told.{mark, choose}
 use Rattle.legs.specs.Legs.{row, foot, angles, marked, coordinates, joints_of, values}
 use Rattle.legs.specs.Answers.{lifts}
-use Rattle.legs.specs.declared.Feet.{Feet}
-use Rattle.legs.specs.declared.Joints.{Joints}
+use Rattle.legs.specs.Legs.{Feet}
+use Rattle.legs.specs.Legs.{Joints}
 use Rattle.commands.specs.Answers.{tripod_mark, command_values}
 use Rattle.commands.specs.declared.MoveCommand.{MoveCommand}
 use Rattle.commands.specs.declared.Time.{Time}
@@ -94,12 +94,15 @@ unfoldable pub configuration_of : List ℕ → ℕ → Configuration
 configuration_of l at =
     record {
       body = body_of l at;
-      left_front = leg_of l (at + 20);
-      right_front = leg_of l (at + 44);
-      left_middle = leg_of l (at + 68);
-      right_middle = leg_of l (at + 92);
-      left_rear = leg_of l (at + 116);
-      right_rear = leg_of l (at + 140);
+      legs =
+          record {
+            left_front = leg_of l (at + 20);
+            right_front = leg_of l (at + 44);
+            left_middle = leg_of l (at + 68);
+            right_middle = leg_of l (at + 92);
+            left_rear = leg_of l (at + 116);
+            right_rear = leg_of l (at + 140);
+          };
     }
 
 -- six points of 72 bytes, in row order, of feet that all stand

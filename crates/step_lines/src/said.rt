@@ -1,96 +1,106 @@
-// What is answered: tripods, times, commands, steps and joints, as words of an answer.
+// What is answered: tripods, times, commands, steps and joints, as fields of an answer.
 use commands::{MoveCommand, Time, Tripod};
-use fields::{Words, said as words};
-use legs::{Feet, Joints, LegAngles};
-use steps::{EvenStepIterator, Lift, StepIterator, TimedStepIterator};
+use fields::Answer;
+use joints::SolverRefusal;
+use legs::{Feet, Joints};
+use numbers::Refusal;
+use steps::{Lift, PacedStepIterator, StepIterator};
 
-// A bit.
-fn flag(o: Words, b: bool) -> Words {
-    if b {
-        words::decimal(o, 1)
-    } else {
-        words::decimal(o, 0)
-    }
+/// A bit.
+pub fn flag(to: &mut Answer, b: bool) {
+    to.decimal(if b { 1 } else { 0 });
 }
 
-// The lifted tripod: 0 is LRL.
-pub fn tripod(o: Words, t: Tripod) -> Words {
-    match t {
-        Tripod::LRL => words::decimal(o, 0),
-        Tripod::RLR => words::decimal(o, 1),
-    }
+/// The lifted tripod: 0 is LRL.
+pub fn tripod(to: &mut Answer, t: Tripod) {
+    flag(to, t == Tripod::RLR);
 }
 
-// Seconds, which fit where a time is permitted, and nanoseconds.
-pub fn time(o: Words, t: Time) -> Words {
-    words::bits(
-        words::bits(o, (t.seconds % 0x1_0000_0000) as u32),
-        t.nanoseconds,
-    )
+/// Seconds, which fit where a time is permitted, and nanoseconds.
+pub fn time(to: &mut Answer, t: Time) {
+    to.bits((t.seconds % 0x1_0000_0000) as u32);
+    to.bits(t.nanoseconds);
 }
 
-// Direction x, direction y, rotation, step time, height, aggressive.
-pub fn command(o: Words, c: MoveCommand) -> Words {
-    let o = words::float(
-        words::float(words::float(o, c.direction_x), c.direction_y),
-        c.rotation,
-    );
-    flag(
-        words::float(time(o, c.step_time), c.step_height),
-        c.aggressive_leg_lift,
-    )
+/// Direction x, direction y, rotation, step time, height, aggressive.
+pub fn command(to: &mut Answer, c: MoveCommand) {
+    to.float(c.direction_x);
+    to.float(c.direction_y);
+    to.float(c.rotation);
+    time(to, c.step_time);
+    to.float(c.step_height);
+    flag(to, c.aggressive_leg_lift);
 }
 
 // Height, descent, tripod, aggressive.
-fn lift(o: Words, l: Lift) -> Words {
-    let lifted = l.tripod;
-    let o = words::float(words::float(o, l.step_height), l.grounded_leg_descent);
-    flag(tripod(o, lifted), l.aggressive_leg_lift)
+fn lift(to: &mut Answer, l: Lift) {
+    to.float(l.step_height);
+    to.float(l.grounded_leg_descent);
+    tripod(to, l.tripod);
+    flag(to, l.aggressive_leg_lift);
 }
 
-// Coxa, femur, tibia.
-fn angles(o: Words, a: LegAngles) -> Words {
-    words::float(words::float(words::float(o, a.coxa), a.femur), a.tibia)
-}
-
-// Six times three angles in row order.
-pub fn joints(o: Words, j: Joints) -> Words {
-    let o = angles(
-        angles(angles(o, j.left_front), j.right_front),
-        j.left_middle,
-    );
-    angles(angles(angles(o, j.right_middle), j.left_rear), j.right_rear)
+// Six times coxa, femur, tibia in row order.
+fn joints(to: &mut Answer, joints: Joints) {
+    for leg in joints.as_legs() {
+        to.float(leg.coxa);
+        to.float(leg.femur);
+        to.float(leg.tibia);
+    }
 }
 
 // Start, last, target.
-fn course(o: Words, start: Feet, last: Feet, target: Feet) -> Words {
-    words::feet(words::feet(words::feet(o, start), last), target)
+fn course(to: &mut Answer, start: Feet, last: Feet, target: Feet) {
+    to.feet(start);
+    to.feet(last);
+    to.feet(target);
 }
 
-// Start, last, target, max move, height, tripod, aggressive.
-pub fn step(o: Words, s: StepIterator) -> Words {
-    let lifted = s.tripod;
-    let o = course(o, s.start, s.last, s.target);
-    flag(
-        tripod(
-            words::float(words::float(o, s.max_move), s.step_height),
-            lifted,
-        ),
-        s.aggressive_leg_lift,
-    )
+/// Start, last, target, max move, height, tripod, aggressive.
+pub fn step(to: &mut Answer, s: StepIterator) {
+    course(to, s.start, s.last, s.target);
+    to.float(s.max_move);
+    to.float(s.step_height);
+    tripod(to, s.tripod);
+    flag(to, s.aggressive_leg_lift);
 }
 
-// Start, last, target, lift, period.
-pub fn timed_step(o: Words, s: TimedStepIterator) -> Words {
-    time(lift(course(o, s.start, s.last, s.target), s.lift), s.period)
+/// Start, last, target, lift, period.
+pub fn paced_step<const EVEN: bool>(to: &mut Answer, s: PacedStepIterator<EVEN>) {
+    course(to, s.start, s.last, s.target);
+    lift(to, s.lift);
+    time(to, s.period);
 }
 
-// The same at even pace.
-pub fn even_step(o: Words, s: EvenStepIterator) -> Words {
-    time(lift(course(o, s.start, s.last, s.target), s.lift), s.period)
+/// `S` and the new feet, or `N` and the last ones, where there is no step.
+pub fn next<S: Copy>(to: &mut Answer, next: Result<Option<(Feet, S)>, Refusal>, last: Feet) {
+    match next {
+        Ok(Some((feet, _))) => {
+            to.ok();
+            to.text(b"S");
+            to.feet(feet);
+        }
+        Ok(None) => {
+            to.ok();
+            to.text(b"N");
+            to.feet(last);
+        }
+        Err(refusal) => to.refused(refusal),
+    }
 }
 
-// `N` and last as it was: the line's second row.
-pub fn no_step(w: Words) -> Words {
-    words::feet(words::marked(b'N'), fields::asked::feet(w, 19))
+/// Eighteen joint angles, or the refusal and its leg.
+pub fn solved(to: &mut Answer, solved: Result<Joints, SolverRefusal>) {
+    match solved {
+        Ok(angles) => {
+            to.ok();
+            joints(to, angles);
+        }
+        Err(why) => {
+            to.refused(why.refusal);
+            if let Some(leg) = why.leg {
+                to.decimal(leg.number());
+            }
+        }
+    }
 }

@@ -1,7 +1,7 @@
 -- A step by distance hands the root and the sine nothing outside their tables: the root by `moves`, and the progress is
 -- never more than 1.
 use Rattle.commands.specs.Constants.{nought}
-use Rattle.std.specs.Prelude.{◌≡◌, ℕ, zero, suc, ◌+◌, ◌*◌, ◌<◌, ◌≤◌, Bool, true, false, not, ◌&&◌, T, [], ◌∷◌}
+use Rattle.std.specs.Prelude.{◌≡◌, ℕ, zero, suc, ◌+◌, ◌*◌, ◌≤◌, Bool, true, false, not, ◌&&◌, T}
 use mathlib.Core.Path.{refl, sym, ◌∙◌, subst}
 use mathlib.Core.Bool.{true≢false}
 use Prim.Native.Nat.{zero-le}
@@ -13,7 +13,7 @@ use lib.Ieee.Fits.{div-fits, and_l, and_r}
 use lib.Ieee.Exact.{HasValue}
 use Rattle.numbers.specs.Told.{choose}
 use Rattle.numbers.specs.Finite.{lesser, greater}
-use Rattle.numbers.specs.Door.{permits, unless, first_of}
+use Rattle.numbers.specs.Door.{permits}
 use Rattle.numbers.specs.Limits.{over}
 use Rattle.numbers.specs.Limits as rows
 use Rattle.units.specs.Units.{unity, Part, hi, lo}
@@ -27,7 +27,7 @@ use Rattle.roots.specs.Root.{square_root}
 use Rattle.roots.proofs.Laws.{rooted, root_fits, root_high}
 use Rattle.legs.specs.Legs.{Leg, left_front, right_front, left_middle, right_middle, left_rear, right_rear}
 use Rattle.legs.specs.Legs.{points, foot, permitted_point, permitted_feet}
-use Rattle.legs.specs.declared.Feet.{Feet}
+use Rattle.legs.specs.Legs.{Feet}
 use Rattle.bounds.specs.Between.{Between, HeldFeet}
 use Rattle.bounds.proofs.Between.{made, result_between, sum_between, product_between}
 use Rattle.bounds.proofs.Rows.{at_max_move, sine_row}

@@ -1,7 +1,7 @@
 -- A step at even pace is done once its period is over: where the elapsed time is no less than the period, the progress is 1 or more, so
 -- that each foot of the step is at its target, and no step follows. The later of two times is no less as f32, and their quotient rounds to
 -- no less than 1.
-use Rattle.std.specs.Prelude.{◌≡◌, ℕ, ◌*◌, ◌^◌, ◌<◌, ◌≤◌, true, false}
+use Rattle.std.specs.Prelude.{◌≡◌, ℕ, ◌*◌, ◌^◌, ◌<◌, ◌≤◌, true, false, Some, None}
 use mathlib.Core.Path.{refl, sym, ap, fun_ext, ◌∙◌}
 use native.Mathlib.Nat.{le_trans, le_of_eq, lt_of_le_of_lt, lt_of_lt_of_le, mul-le-mul_left, mul-le-mul_right}
 use native.Mathlib.Omega.{arith}
@@ -19,7 +19,7 @@ use Rattle.units.proofs.Multiply.{div_value}
 use Rattle.units.proofs.Order.{le_values}
 use Rattle.legs.specs.Legs.{Leg, every, six_points, points, foot, finite_point, finite_feet}
 use Rattle.legs.specs.declared.Point.{Point}
-use Rattle.legs.specs.declared.Feet.{Feet}
+use Rattle.legs.specs.Legs.{Feet}
 use Rattle.legs.proofs.OnePass.{each_true, every_true}
 use Rattle.moves.specs.Distance.{same}
 use Rattle.moves.proofs.Same.{same_itself}
@@ -27,9 +27,7 @@ use Rattle.commands.specs.Constants.{one}
 use Rattle.commands.specs.Times.{elapsed_permitted, period_permitted, in_seconds, in_nanoseconds}
 use Rattle.commands.specs.declared.Time.{Time}
 use Rattle.steps.specs.Progress.{even_progress}
-use Rattle.steps.specs.Next.{next_even}
-use Rattle.steps.specs.declared.EvenStepIterator.{EvenStepIterator}
-use Rattle.steps.specs.declared.NextEven.TheVariants.{Step, NoStep}
+use Rattle.steps.specs.Next.{EvenStepIterator, next_even}
 use Rattle.steps.proofs.Times.{time_units, time_most, time_value, time_mono, elapsed_few, elapsed_below}
 use Rattle.steps.proofs.Times.{period_few, period_below, period_least}
 use Rattle.steps.proofs.Straight.{at_its_target}
@@ -86,7 +84,7 @@ module _ (elapsed period : Time) (E : elapsed_permitted elapsed ≡ true) (P : p
 -- ---- the feet of the step
 module _ (s s' : EvenStepIterator) (elapsed : Time) (f : Feet)
     (E : elapsed_permitted elapsed ≡ true) (P : period_permitted s.period ≡ true)
-    (h : in_nanoseconds s.period ≤ in_nanoseconds elapsed) (e : next_even s elapsed ≡ Step f s') where
+    (h : in_nanoseconds s.period ≤ in_nanoseconds elapsed) (e : next_even s elapsed ≡ Some (f, s')) where
   pub even_at_its_target : (l : Leg) → foot f l ≡ foot s.target l
   even_at_its_target l = at_its_target s s' elapsed f e l (even_done elapsed s.period E P h)
 
@@ -103,7 +101,7 @@ module _ (s s' : EvenStepIterator) (elapsed : Time) (f : Feet)
     pub even_all_there : every (λ l. same (foot f l) (foot s.target l)) ≡ true
     even_all_there = every_true (λ l. same (foot f l) (foot s.target l)) even_same
 
-    pub none_after : (later : Time) → next_even s' later ≡ NoStep
+    pub none_after : (later : Time) → next_even s' later ≡ None
     none_after later =
         let after = (even_step_taken s s' elapsed f e).1 in
         ap (λ (r : EvenStepIterator). next_even r later) after ∙ (even_ends _ later).1 even_all_there

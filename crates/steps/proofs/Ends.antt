@@ -1,7 +1,7 @@
 -- When a step ends. Request K5: even pace "only when every last point equals its target in all three coordinates", so start, times and
 -- the sideways distance have no say in it. The source's two end there too, and where nothing moves sideways, though z may differ. Of
 -- every float, refused or not.
-use Rattle.std.specs.Prelude.{◌≡◌, Bool, true, false, not, ◌&&◌, ◌||◌, ◌↔◌}
+use Rattle.std.specs.Prelude.{◌≡◌, Bool, true, false, not, ◌&&◌, ◌||◌, ◌↔◌, Some, None}
 use mathlib.Core.Path.{refl, sym, ◌∙◌}
 use mathlib.Core.Bool.{true≢false}
 use lib.Ieee.{Float, le}
@@ -10,29 +10,24 @@ use Rattle.numbers.specs.Told.{choose}
 use Rattle.legs.specs.Legs.{Leg, left_front, right_front, left_middle, right_middle, left_rear, right_rear, every, some}
 use Rattle.legs.specs.Legs.{point, points, foot}
 use Rattle.legs.specs.declared.Point.{Point}
-use Rattle.legs.specs.declared.Points.{Points}
-use Rattle.legs.specs.declared.Feet.{Feet}
+use Rattle.legs.specs.Legs.{Points}
+use Rattle.legs.specs.Legs.{Feet}
 use Rattle.moves.specs.Distance.{same, max_horizontal_distance}
 use Rattle.moves.specs.Moving.{has_moved, one_moved}
-use Rattle.moves.specs.declared.MoveStep.TheVariants.{Moved, Arrived}
-use Rattle.moves.specs.declared.unchecked.PointsStep.{PointsStep}
-use Rattle.moves.specs.declared.unchecked.PointsStep.TheVariants.{Moved as PointsMoved, Arrived as PointsArrived}
+use Rattle.moves.specs.declared.Step.{Step}
+use Rattle.moves.specs.declared.Step.TheVariants.{Moved, Arrived}
 use Rattle.commands.specs.declared.Time.{Time}
 use Rattle.steps.specs.Leg.{step_lifted_leg}
 use Rattle.steps.specs.Progress.{step_progress, timed_progress, even_progress}
 use Rattle.steps.specs.Shift.{height_of, leg_step, shift_legs}
-use Rattle.steps.specs.Next.{onward, step_ended, timed_ended, step_lift, by_time, step_last, timed_last, even_last}
-use Rattle.steps.specs.Next.{step_feet, timed_feet, even_feet}
+use Rattle.steps.specs.Next.{TimedStepIterator, EvenStepIterator}
+use Rattle.steps.specs.Next.{onward, step_ended, timed_ended, step_lift, by_time, step_last, paced_last}
+use Rattle.steps.specs.Next.{step_feet, paced_feet}
 use Rattle.steps.specs.Next.{timed_at, even_at, next_step, next_timed, next_even}
 use Rattle.steps.specs.declared.Lift.{Lift}
 use Rattle.steps.specs.declared.StepIterator.{StepIterator}
-use Rattle.steps.specs.declared.TimedStepIterator.{TimedStepIterator}
-use Rattle.steps.specs.declared.EvenStepIterator.{EvenStepIterator}
-use Rattle.steps.specs.declared.NextStep.TheVariants.{Step, NoStep}
-use Rattle.steps.specs.declared.NextTimed.TheVariants.{Step as TimedStep, NoStep as NoTimedStep}
-use Rattle.steps.specs.declared.NextEven.TheVariants.{Step as EvenStep, NoStep as NoEvenStep}
 use Rattle.steps.proofs.FootByFoot.{shared_flag}
-use Rattle.steps.proofs.Taken.{step_some, timed_some, even_some}
+use Rattle.steps.proofs.Taken.{none_is_no_step}
 
 -- whether a foot is at its target, in x, y and z as numbers; whether all six are
 abbrev pub there : Feet → Feet → Leg → Bool
@@ -85,55 +80,51 @@ module _ (start last target : Points) (lift : Lift) (progress : Float) where
       shared_flag start last target lift progress ∙ some_moved
       ∙ not_all (b left_front) (b right_front) (b left_middle) (b right_middle) (b left_rear) (b right_rear)
 
--- ---- whatever the state: `step` and `none` are what a step that moved leads to and one that did not, `all` is whether all six feet were
--- at their targets
-module _ {N : Type 0} (step : Points → N) (none : N) (differ : (p : Points) → none ≡ step p → ⊥) (all : Bool) where
-  stood : (g : PointsStep) → one_moved g ≡ not all → (onward step none g ≡ none) ↔ (all ≡ true)
-  unfolding one_moved
-  stood (PointsMoved p) h = (λ e. absurd (differ p (sym e)), λ e. absurd (true≢false (moved e)))
+-- ---- whatever the state: `feet` and `last` make what a step that moved leads to, `all` is whether all six feet were at their targets
+module _ {S : Type 0} (feet : Points → Feet) (last : Feet → S) (all : Bool) where
+  stood : (g : Step Points) → one_moved g ≡ not all → (onward feet last g ≡ None) ↔ (all ≡ true)
+  unfolding has_moved
+  stood (Moved p) h = (λ e. absurd (none_is_no_step (feet p) (last (feet p)) (sym e)), λ e. absurd (true≢false (moved e)))
     where
       moved : all ≡ true → true ≡ false
       moved e = simp (h, e)
-  stood (PointsArrived p) h = (λ e. by_flag all h, λ e. refl)
+  stood (Arrived p) h = (λ e. by_flag all h, λ e. refl)
     where
       by_flag : (b : Bool) → false ≡ not b → b ≡ true
       by_flag true h = refl
       by_flag false h = absurd (true≢false (sym h))
 
   -- or it was over before a leg was asked
-  ended : (over : Bool) (g : PointsStep) → one_moved g ≡ not all
-      → (choose over none (onward step none g) ≡ none) ↔ ((over || all) ≡ true)
+  ended : (over : Bool) (g : Step Points) → one_moved g ≡ not all
+      → (choose over None (onward feet last g) ≡ None) ↔ ((over || all) ≡ true)
   ended true g h = (λ e. refl, λ e. refl)
   ended false g h = stood g h
 
-  ended_by_time : (over : Bool) (last : Points) (g : PointsStep) → one_moved g ≡ not all
-      → (onward step none (choose over (PointsArrived last) g) ≡ none) ↔ ((over || all) ≡ true)
-  ended_by_time true last g h = (λ e. refl, λ e. refl)
-  ended_by_time false last g h = stood g h
+  ended_by_time : (over : Bool) (before : Points) (g : Step Points) → one_moved g ≡ not all
+      → (onward feet last (choose over (Arrived before) g) ≡ None) ↔ ((over || all) ≡ true)
+  ended_by_time true before g h = (λ e. refl, λ e. refl)
+  ended_by_time false before g h = stood g h
 
 -- ---- by distance
 pub step_ends : (s : StepIterator)
-    → (next_step s ≡ NoStep)
+    → (next_step s ≡ None)
     ↔ ((step_ended (max_horizontal_distance (points s.start) (points s.target)) || all_there s.last s.target) ≡ true)
 unfolding next_step
 step_ends s =
     let full = max_horizontal_distance (points s.start) (points s.target) in
     let p = step_progress (max_horizontal_distance (points s.last) (points s.start)) s.max_move full in
-    ended (λ q. Step (step_feet s q) (step_last s (step_feet s q))) NoStep (λ q. step_some (step_feet s q) (step_last s (step_feet s q)))
-    (all_there s.last s.target) (step_ended full)
+    ended (step_feet s) (step_last s) (all_there s.last s.target) (step_ended full)
     (shift_legs (points s.start) (points s.last) (points s.target) (step_lift s) p)
     (one_moved_lem (points s.start) (points s.last) (points s.target) (step_lift s) p)
 
 -- ---- by time
 pub timed_ends : (s : TimedStepIterator) (elapsed : Time)
-    → (next_timed s elapsed ≡ NoTimedStep)
+    → (next_timed s elapsed ≡ None)
     ↔ ((timed_ended (max_horizontal_distance (points s.start) (points s.target)) || all_there s.last s.target) ≡ true)
 unfolding next_timed timed_at by_time
 timed_ends s elapsed =
     let p = timed_progress elapsed s.period in
-    ended_by_time (λ q. TimedStep (timed_feet s q) (timed_last s (timed_feet s q))) NoTimedStep
-    (λ q. timed_some (timed_feet s q) (timed_last s (timed_feet s q)))
-    (all_there s.last s.target)
+    ended_by_time (paced_feet s) (paced_last s) (all_there s.last s.target)
     (timed_ended (max_horizontal_distance (points s.start) (points s.target)))
     (points s.last)
     (shift_legs (points s.start) (points s.last) (points s.target) s.lift p)
@@ -141,13 +132,11 @@ timed_ends s elapsed =
 
 -- ---- at even pace: THE PROMISE OF K5
 pub even_ends : (s : EvenStepIterator) (elapsed : Time)
-    → (next_even s elapsed ≡ NoEvenStep) ↔ (every (λ l. same (foot s.last l) (foot s.target l)) ≡ true)
+    → (next_even s elapsed ≡ None) ↔ (every (λ l. same (foot s.last l) (foot s.target l)) ≡ true)
 unfolding next_even even_at
 even_ends s elapsed =
     let p = even_progress elapsed s.period in
-    stood (λ q. EvenStep (even_feet s q) (even_last s (even_feet s q))) NoEvenStep
-    (λ q. even_some (even_feet s q) (even_last s (even_feet s q)))
-    (all_there s.last s.target)
+    stood (paced_feet s) (paced_last s) (all_there s.last s.target)
     (shift_legs (points s.start) (points s.last) (points s.target) s.lift p)
     (one_moved_lem (points s.start) (points s.last) (points s.target) s.lift p)
 
@@ -167,7 +156,7 @@ one_away b away =
     find true true true true true false e1 e2 e3 e4 e5 e6 = (right_rear, e6)
     find true true true true true true e1 e2 e3 e4 e5 e6 = absurd (away (simp (e1, e2, e3, e4, e5, e6)))
 
-pub a_foot_was_away : (s s' : EvenStepIterator) (elapsed : Time) (f : Feet) → next_even s elapsed ≡ EvenStep f s'
+pub a_foot_was_away : (s s' : EvenStepIterator) (elapsed : Time) (f : Feet) → next_even s elapsed ≡ Some (f, s')
     → (l : Leg) × (same (foot s.last l) (foot s.target l) ≡ false)
 a_foot_was_away s s' elapsed f e =
-    one_away (there s.last s.target) (λ h. even_some f s' (sym ((even_ends s elapsed).1 h) ∙ e))
+    one_away (there s.last s.target) (λ h. none_is_no_step f s' (sym ((even_ends s elapsed).1 h) ∙ e))

@@ -16,10 +16,10 @@ use Rattle.sines.specs.How.{sine}
 use Rattle.sines.proofs.Examples.{quarter_turn}
 use Rattle.legs.specs.Legs.{row, six_points, points, marked, finite_point, permitted_point}
 use Rattle.legs.specs.declared.Point.{Point}
-use Rattle.legs.specs.declared.Points.{Points}
-use Rattle.legs.specs.declared.Feet.{Feet}
+use Rattle.legs.specs.Legs.{Points}
+use Rattle.legs.specs.Legs.{Feet}
 use Rattle.moves.specs.Distance.{same, horizontal_sum, horizontal_distance, max_horizontal_distance}
-use Rattle.moves.specs.Moving.{point_of, has_moved}
+use Rattle.moves.specs.Moving.{place_of, has_moved}
 use Rattle.steps.specs.Answers.{lift_marks, lift_values, given_step, given_none}
 use Rattle.steps.specs.Entries.{next_step_told, next_timed_told, next_even_told}
 use Rattle.steps.specs.Leg.{half, half_turn, step_lifted_leg}
@@ -90,13 +90,13 @@ nanoseconds_of n = record { seconds = 0; nanoseconds = n }
 -- from up to down in half a second, last where it says, at so many nanoseconds
 abbrev even : Bool → Feet → ℕ → Told
 even aggressive last n =
-    next_even_told
+    next_even_told {pace = 1}
     (record { start = up; last = last; target = down; period = nanoseconds_of 500000000; lift = lift aggressive })
     (nanoseconds_of n)
 
 abbrev timed : Feet → ℕ → Told
 timed last n =
-    next_timed_told
+    next_timed_told {pace = 0}
     (record { start = up; last = last; target = down; period = nanoseconds_of 500000000; lift = lift false })
     (nanoseconds_of n)
 
@@ -126,7 +126,7 @@ pub lowered : ((even false up 500000000 ≡ went false down)
     × ((timed up 500000000 ≡ given_none) × (timed down 500000000 ≡ given_none) × (timed hanging 500000000 ≡ given_none))
     × ((by_distance up ≡ given_none) × (by_distance down ≡ given_none) × (by_distance hanging ≡ given_none))
 unfolding next_even_told next_even even_at next_timed_told next_timed timed_at by_time next_step_told next_step lift_refusal step_refusal
-    even_progress timed_progress step_progress shift_legs stepped mark_after step_lifted_leg same has_moved point_of
+    even_progress timed_progress step_progress shift_legs stepped mark_after step_lifted_leg same has_moved place_of
     max_horizontal_distance horizontal_distance horizontal_sum square_root elapsed_permitted period_permitted whole_number in_seconds
     finite_point permitted_point finite foot_limit max_move direction over minus nought one half half_turn round of_bits add sub mul div lt
     le eq
@@ -150,7 +150,7 @@ pub on_the_way : (even false up 250000000 ≡ went false (stepped LRL up (points
     × (even true up 125000000 ≡ went true (three_lifted (swung (bits 0x3d0b_4395) (bits 0x3b83_126f))))
     × (timed up 250000000 ≡ given_none)
 unfolding next_even_told next_even even_at next_timed_told next_timed timed_at by_time lift_refusal
-    even_progress timed_progress shift_legs stepped mark_after step_lifted_leg same has_moved point_of max_horizontal_distance
+    even_progress timed_progress shift_legs stepped mark_after step_lifted_leg same has_moved place_of max_horizontal_distance
     horizontal_distance
     horizontal_sum square_root elapsed_permitted period_permitted whole_number in_seconds finite_point permitted_point finite
     foot_limit direction over minus nought one half half_turn round of_bits add sub mul div lt le eq

@@ -5,9 +5,9 @@ use mathlib.Core.Path.{ap, ap₂, ◌∙◌}
 use lib.Ieee.{Float}
 use Rattle.legs.specs.Legs.{Leg, point, some}
 use Rattle.legs.specs.declared.Point.{Point}
-use Rattle.legs.specs.declared.Points.{Points}
+use Rattle.legs.specs.Legs.{Points}
 use Rattle.moves.specs.Moving.{point_of, has_moved, points_of, one_moved}
-use Rattle.moves.specs.declared.MoveStep.{MoveStep}
+use Rattle.moves.specs.declared.Step.{Step}
 use Rattle.moves.proofs.FootByFoot.{each_together, flag_together, one_together}
 use Rattle.steps.specs.Leg.{step_lifted_leg}
 use Rattle.steps.specs.Shift.{height_of, leg_step, shift_legs}
@@ -31,7 +31,7 @@ pub one_foot_alone : (s s' l l' t t' : Points) (lift : Lift) (progress : Float) 
     → point (points_of (shift_legs s l t lift progress)) k ≡ point (points_of (shift_legs s' l' t' lift progress)) k
 unfolding shift_legs
 one_foot_alone s s' l l' t t' lift progress k es el et =
-    let step : Point → Point → Point → MoveStep =
+    let step : Point → Point → Point → Step Point =
     λ a b c. step_lifted_leg a b c (height_of lift k) progress lift.aggressive_leg_lift
     in
     one_together (leg_step s l t lift progress) (leg_step s' l' t' lift progress) k

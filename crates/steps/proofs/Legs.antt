@@ -7,13 +7,13 @@ use Rattle.numbers.specs.Told.{choose}
 use Rattle.legs.specs.declared.Point.{Point}
 use Rattle.sines.specs.How.{sine}
 use Rattle.moves.specs.Distance.{same}
-use Rattle.moves.specs.declared.MoveStep.{MoveStep}
-use Rattle.moves.specs.declared.MoveStep.TheVariants.{Moved, Arrived}
+use Rattle.moves.specs.declared.Step.{Step}
+use Rattle.moves.specs.declared.Step.TheVariants.{Moved, Arrived}
 use Rattle.steps.specs.Leg.{half, half_turn, part_way, step_lifted_leg}
 use Rattle.steps.specs.How.{at_once, swing, raised, leg_at}
 
 module _ (start last target : Point) (height progress sine' : Float) where
-  at_height : Bool → Float → MoveStep
+  at_height : Bool → Float → Step Point
   at_height done up =
       choose (same last target)
       (Arrived target)

@@ -12,10 +12,9 @@ use Rattle.numbers.specs.Limits.{over, minus, foot_limit, direction}
 use Rattle.legs.specs.Legs.{Leg, left_front, right_front, left_middle, right_middle, left_rear, right_rear}
 use Rattle.legs.specs.Legs.{six_points, marked, finite_point, permitted_point}
 use Rattle.legs.specs.declared.Point.{Point}
-use Rattle.legs.specs.declared.Points.{Points}
-use Rattle.legs.specs.declared.Feet.{Feet}
+use Rattle.legs.specs.Legs.{Points}
 use Rattle.moves.specs.Distance.{same}
-use Rattle.moves.specs.Moving.{point_of, has_moved}
+use Rattle.moves.specs.Moving.{place_of, has_moved}
 use Rattle.steps.specs.Entries.{next_even_told}
 use Rattle.steps.specs.Leg.{half, half_turn, step_lifted_leg}
 use Rattle.steps.specs.Marks.{mark_after, stepped}
@@ -77,7 +76,7 @@ told_first t = take 7 t.marks
 abbrev going : Points → (Leg → Bool) → Points → Lift → ℕ → List ℕ
 going start had last lift n =
     told_first
-    (next_even_told
+    (next_even_told {pace = 1}
     (record {
       start = marked odd start;
       last = marked had last;
@@ -96,7 +95,7 @@ pub marks_told :
     × (even all here 250000000 ≡ 1 ∷ 1 ∷ 1 ∷ 1 ∷ 1 ∷ 1 ∷ 1 ∷ [])
     × (even all here 500000000 ≡ 1 ∷ 0 ∷ 1 ∷ 1 ∷ 0 ∷ 0 ∷ 1 ∷ [])
     × (even all one_there 500000000 ≡ 1 ∷ 1 ∷ 1 ∷ 1 ∷ 0 ∷ 0 ∷ 1 ∷ [])
-unfolding next_even_told next_even even_at lift_refusal even_progress shift_legs stepped mark_after step_lifted_leg same has_moved point_of
+unfolding next_even_told next_even even_at lift_refusal even_progress shift_legs stepped mark_after step_lifted_leg same has_moved place_of
     elapsed_permitted period_permitted whole_number in_seconds finite_point permitted_point finite foot_limit direction over minus nought
     one
     half half_turn round of_bits add sub mul div lt le eq
@@ -106,7 +105,7 @@ marks_told = (refl, refl, refl, refl, refl)
 pub there_early :
     (going there none here (lift 0 true) 125000000 ≡ 1 ∷ 0 ∷ 0 ∷ 0 ∷ 0 ∷ 0 ∷ 0 ∷ [])
     × (going there all here (lift 0 true) 125000000 ≡ 1 ∷ 0 ∷ 1 ∷ 1 ∷ 0 ∷ 0 ∷ 1 ∷ [])
-unfolding next_even_told next_even even_at lift_refusal even_progress shift_legs stepped mark_after step_lifted_leg same has_moved point_of
+unfolding next_even_told next_even even_at lift_refusal even_progress shift_legs stepped mark_after step_lifted_leg same has_moved place_of
     elapsed_permitted period_permitted whole_number in_seconds finite_point permitted_point finite foot_limit direction over minus nought
     one
     half half_turn round of_bits add sub mul div lt le eq

@@ -1,14 +1,13 @@
 -- What a step does to marks. A leg of the lifted tripod that was away from its target is lifted, unless it came there, then it stands; any
 -- other keeps the mark that it had last. So it is at each of the three paces, and marks have no part in where feet go. Assumes nothing.
-use Rattle.std.specs.Prelude.{◌≡◌, Bool, true, false, not, ◌&&◌}
+use Rattle.std.specs.Prelude.{◌≡◌, Bool, true, false, not, ◌&&◌, Some}
 use mathlib.Core.Path.{refl, sym, ap, ap₂, ◌∙◌}
 use lib.Ieee.{Float}
 use Rattle.numbers.specs.Told.{choose}
 use Rattle.legs.specs.Legs.{Leg, point, points, foot, lifted, whole}
 use Rattle.legs.specs.declared.Point.{Point}
-use Rattle.legs.specs.declared.Points.{Points}
-use Rattle.legs.specs.declared.Foot.{Foot}
-use Rattle.legs.specs.declared.Feet.{Feet}
+use Rattle.legs.specs.Legs.{Points}
+use Rattle.legs.specs.Legs.{Feet}
 use Rattle.legs.proofs.Laws.{lifted_of_marked}
 use Rattle.moves.specs.Distance.{same}
 use Rattle.moves.specs.Moving.{points_of}
@@ -17,14 +16,9 @@ use Rattle.commands.specs.declared.Time.{Time}
 use Rattle.commands.specs.declared.Tripod.{Tripod}
 use Rattle.steps.specs.Marks.{mark_after, step_mark, stepped}
 use Rattle.steps.specs.Shift.{shift_legs}
-use Rattle.steps.specs.Next.{next_step, next_timed, next_even}
+use Rattle.steps.specs.Next.{TimedStepIterator, EvenStepIterator, next_step, next_timed, next_even}
 use Rattle.steps.specs.declared.Lift.{Lift}
 use Rattle.steps.specs.declared.StepIterator.{StepIterator}
-use Rattle.steps.specs.declared.TimedStepIterator.{TimedStepIterator}
-use Rattle.steps.specs.declared.EvenStepIterator.{EvenStepIterator}
-use Rattle.steps.specs.declared.NextStep.TheVariants.{Step}
-use Rattle.steps.specs.declared.NextTimed.TheVariants.{Step as TimedStep}
-use Rattle.steps.specs.declared.NextEven.TheVariants.{Step as EvenStep}
 use Rattle.steps.proofs.FootByFoot.{one_foot_alone}
 use Rattle.steps.proofs.Taken.{step_taken, timed_step_taken, even_step_taken}
 
@@ -73,15 +67,15 @@ after t last target p f e l =
     ∙ marks_of_step t last target p l
     ∙ ap (λ (q : Points). step_mark t last target q l) (sym (points_of_step t last target p) ∙ sym (ap points e))
 
-pub marks_by_distance : (s s' : StepIterator) (f : Feet) → next_step s ≡ Step f s'
+pub marks_by_distance : (s s' : StepIterator) (f : Feet) → next_step s ≡ Some (f, s')
     → (l : Leg) → lifted f l ≡ step_mark s.tripod s.last (points s.target) (points f) l
 marks_by_distance s s' f e = after s.tripod s.last (points s.target) _ f (step_taken s s' f e).0
 
-pub marks_by_time : (s s' : TimedStepIterator) (elapsed : Time) (f : Feet) → next_timed s elapsed ≡ TimedStep f s'
+pub marks_by_time : (s s' : TimedStepIterator) (elapsed : Time) (f : Feet) → next_timed s elapsed ≡ Some (f, s')
     → (l : Leg) → lifted f l ≡ step_mark s.lift.tripod s.last (points s.target) (points f) l
 marks_by_time s s' elapsed f e = after s.lift.tripod s.last (points s.target) _ f (timed_step_taken s s' elapsed f e).0
 
-pub marks_at_even_pace : (s s' : EvenStepIterator) (elapsed : Time) (f : Feet) → next_even s elapsed ≡ EvenStep f s'
+pub marks_at_even_pace : (s s' : EvenStepIterator) (elapsed : Time) (f : Feet) → next_even s elapsed ≡ Some (f, s')
     → (l : Leg) → lifted f l ≡ step_mark s.lift.tripod s.last (points s.target) (points f) l
 marks_at_even_pace s s' elapsed f e = after s.lift.tripod s.last (points s.target) _ f (even_step_taken s s' elapsed f e).0
 

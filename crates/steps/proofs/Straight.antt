@@ -1,7 +1,7 @@
 -- Request K5 read out, of one foot of a step at even pace that nothing refuses: once the time is up it is at its target; before that a
 -- foot that is not there yet is above its start by the sine's height, and where start and target do not differ sideways it has its
 -- start's x and y. So z does not glide from start to target.
-use Rattle.std.specs.Prelude.{◌≡◌, ℕ, ◌+◌, ◌-◌, ◌*◌, ◌<◌, ◌≤◌, Bool, true, false, ◌&&◌, T, ◌⊎◌}
+use Rattle.std.specs.Prelude.{◌≡◌, ℕ, ◌+◌, ◌-◌, ◌*◌, ◌<◌, ◌≤◌, Bool, true, false, ◌&&◌, T, ◌⊎◌, Some}
 use mathlib.Core.Path.{refl, sym, ap, ◌∙◌, subst}
 use mathlib.Core.Logic.{inl, inr}
 use mathlib.Core.Bool.{true≢false}
@@ -26,22 +26,20 @@ use Rattle.units.proofs.Order.{eq_part}
 use Rattle.units.proofs.Values.{one_side, part_finite}
 use Rattle.legs.specs.Legs.{Leg, points, foot, permitted_point, permitted_feet}
 use Rattle.legs.specs.declared.Point.{Point}
-use Rattle.legs.specs.declared.Feet.{Feet}
+use Rattle.legs.specs.Legs.{Feet}
 use Rattle.legs.proofs.Laws.{each_of_every}
 use Rattle.bounds.specs.Between.{Between, HeldFeet, PointBounds}
 use Rattle.bounds.proofs.Between.{made, product_between}
 use Rattle.bounds.proofs.Rows.{point_bounds}
 use Rattle.moves.specs.Distance.{same}
-use Rattle.moves.specs.Moving.{point_of}
-use Rattle.moves.specs.declared.MoveStep.TheVariants.{Moved, Arrived}
+use Rattle.moves.specs.Moving.{place_of, point_of}
+use Rattle.moves.specs.declared.Step.TheVariants.{Moved, Arrived}
 use Rattle.steps.specs.Leg.{part_way, above, step_lifted_leg}
 use Rattle.steps.specs.Progress.{even_progress}
 use Rattle.steps.specs.Marks.{stepped}
 use Rattle.steps.specs.Shift.{height_of, leg_step}
-use Rattle.steps.specs.Next.{next_even}
+use Rattle.steps.specs.Next.{EvenStepIterator, next_even}
 use Rattle.steps.specs.Refusals.{timely, finite_lift, permitted_lift, permitted_course, lift_refusal}
-use Rattle.steps.specs.declared.EvenStepIterator.{EvenStepIterator}
-use Rattle.steps.specs.declared.NextEven.TheVariants.{Step}
 use Rattle.steps.proofs.FootByFoot.{each_foot}
 use Rattle.steps.proofs.Taken.{even_step_taken}
 use Rattle.steps.proofs.Within.{even_below_one, period_taken}
@@ -97,7 +95,7 @@ module _ (s t p : Float) (a : Between 4 4 s) (b : Between 4 4 t) (c : Between 1 
       even {k} {l} {i} {j} h g = omega arith
 
 -- ---- one foot of a step
-module _ (s s' : EvenStepIterator) (elapsed : Time) (f : Feet) (e : next_even s elapsed ≡ Step f s') (l : Leg) where
+module _ (s s' : EvenStepIterator) (elapsed : Time) (f : Feet) (e : next_even s elapsed ≡ Some (f, s')) (l : Leg) where
   abbrev progress : Float
   progress = even_progress elapsed s.period
 
@@ -109,7 +107,7 @@ module _ (s s' : EvenStepIterator) (elapsed : Time) (f : Feet) (e : next_even s 
 
   -- once the time is up
   pub at_its_target : le one progress ≡ true → foot f l ≡ foot s.target l
-  unfolding step_lifted_leg point_of
+  unfolding step_lifted_leg place_of
   at_its_target h = its_step ∙ by_test (foot s.target l) _ (same (foot s.last l) (foot s.target l)) (le one progress) h
     where
       by_test : (t p : Point) (b c : Bool) → c ≡ true → point_of (choose b (Arrived t) (choose c (Moved t) (Moved p))) ≡ t
@@ -126,7 +124,7 @@ module _ (s s' : EvenStepIterator) (elapsed : Time) (f : Feet) (e : next_even s 
           z =
               add binary32 (above (height_of s.lift l) progress s.lift.aggressive_leg_lift) (foot s.start l).z;
         }
-    unfolding step_lifted_leg point_of
+    unfolding step_lifted_leg place_of
     on_its_way = its_step ∙ simp (away, early)
 
     -- with no sideways distance

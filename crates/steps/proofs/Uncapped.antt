@@ -1,20 +1,22 @@
 -- Where nothing is refused, ours computes document 01's progress: neither time is capped.
-use Rattle.std.specs.Prelude.{◌≡◌, ℕ, Bool, true, false, [], ◌∷◌}
-use mathlib.Core.Path.{refl, sym, ap, ap₂, ◌∙◌}
+use Rattle.std.specs.Prelude.{◌≡◌, Bool, true, false, [], ◌∷◌}
+use mathlib.Core.Path.{refl, sym, ap, ap₂}
 use native.Mathlib.Omega.{arith}
 use lib.Ieee.{Float}
 use borrow.Author.Tests.{eqb-true}
 use Rattle.numbers.proofs.OneAnswer.{alike_where_taken}
-use Rattle.numbers.specs.Told.{Told, given, answer}
+use Rattle.numbers.specs.Told.{Told, answer}
 use Rattle.numbers.specs.Door.{unless, first_of}
-use Rattle.legs.specs.declared.Feet.{Feet}
+use Rattle.legs.specs.Legs.{Feet}
 use Rattle.commands.specs.Times.{elapsed_permitted, period_permitted}
 use Rattle.commands.specs.How.{capped}
 use Rattle.commands.specs.declared.Time.{Time}
 use Rattle.numbers.proofs.OnePass.{and_left, and_right}
 use Rattle.commands.proofs.Uncapped.{elapsed_uncapped, period_uncapped}
 use Rattle.steps.specs.Refusals.{timely, progress_refusal, finite_lift, permitted_lift, lift_refusal}
+use Rattle.steps.specs.Progress.{timed_progress, even_progress}
 use Rattle.steps.specs.declared.Lift.{Lift}
+pub use Rattle.numbers.proofs.Admitted.{entry}
 
 -- ---- what is not refused is in time
 in_time : (b : Bool) → unless b 3 ≡ 0 → b ≡ true
@@ -43,13 +45,16 @@ uncapped elapsed period h progress =
     (elapsed_uncapped elapsed (and_left (elapsed_permitted elapsed) (period_permitted period) h))
     (period_uncapped period (and_right (elapsed_permitted elapsed) (period_permitted period) h))
 
--- ---- so an entry that computes x or r from the capped times, where its number n is 0, tells document 01's answer
-pub progress_taken : (progress : Time → Time → Float) (elapsed period : Time) (n : ℕ) (x : Float)
-    → n ≡ progress_refusal elapsed period → n ≡ 0 → x ≡ progress (capped elapsed) (capped period)
-    → given [] (x ∷ []) ≡ answer (progress_refusal elapsed period) (given [] (progress elapsed period ∷ []))
-progress_taken progress elapsed period n x e z d =
-    let none : progress_refusal elapsed period ≡ 0 = sym e ∙ z in
-    simp (d, uncapped elapsed period (progress_in_time elapsed period none) progress, none)
+-- ---- so an entry that computes its progress from the capped times, where nothing is refused, gives document 01's
+pub timed_uncapped : (elapsed period : Time) → 0 ≡ progress_refusal elapsed period
+    → timed_progress (capped elapsed) (capped period) ≡ timed_progress elapsed period
+timed_uncapped elapsed period none = uncapped elapsed period (progress_in_time elapsed period (sym none)) timed_progress
+
+pub even_uncapped : (elapsed period : Time) → 0 ≡ progress_refusal elapsed period
+    → even_progress (capped elapsed) (capped period) ≡ even_progress elapsed period
+even_uncapped elapsed period none = uncapped elapsed period (progress_in_time elapsed period (sym none)) even_progress
+
+pub ruleset progress_entry = (entry, timed_uncapped, even_uncapped)
 
 -- and so does a next step that is made at such a progress
 pub made_in_time : (start last target : Feet) (lift : Lift) (elapsed period : Time) {N : Type 0} (tell : N → Told) (at : Float → N)

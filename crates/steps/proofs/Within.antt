@@ -15,7 +15,7 @@ use Rattle.numbers.specs.Limits as rows
 use Rattle.units.specs.Units.{unity, Part, hi, lo}
 use Rattle.units.proofs.Held.{single}
 use Rattle.units.proofs.Order.{not_le_part}
-use Rattle.legs.specs.declared.Feet.{Feet}
+use Rattle.legs.specs.Legs.{Feet}
 use Rattle.bounds.specs.Between.{Between}
 use Rattle.bounds.proofs.Between.{product_between}
 use Rattle.bounds.proofs.Rows.{sine_row}
@@ -24,10 +24,9 @@ use Rattle.commands.specs.declared.Time.{Time}
 use Rattle.numbers.proofs.OnePass.{and_right}
 use Rattle.steps.specs.Leg.{half_turn}
 use Rattle.steps.specs.Progress.{timed_progress, even_progress}
+use Rattle.steps.specs.Next.{TimedStepIterator, EvenStepIterator}
 use Rattle.steps.specs.Refusals.{timely, lift_refusal}
 use Rattle.steps.specs.declared.Lift.{Lift}
-use Rattle.steps.specs.declared.TimedStepIterator.{TimedStepIterator}
-use Rattle.steps.specs.declared.EvenStepIterator.{EvenStepIterator}
 use Rattle.steps.proofs.Uncapped.{step_in_time}
 use Rattle.steps.proofs.Times.{FromZero, div_from_zero, seconds_from_zero, period_above}
 

@@ -2,28 +2,20 @@
 -- state's marks are its tripod (LRL 0, RLR 1), the aggressive flag and, by time, the period, then those of start, last and target
 -- (request K12); its values are its heights and max move, then start, last and target.
 use Rattle.std.specs.Prelude.{ℕ, List, [], ◌∷◌, ◌++◌}
-use Rattle.std.specs.Prelude.{Float}
-use Rattle.numbers.specs.Told.{Told, refused, given, mark}
+use Rattle.std.specs.Prelude.{Float, Option, Some, None, Result}
+use Rattle.numbers.specs.Told.{Told, given, mark}
+use Rattle.numbers.specs.Answers.{told_by}
+use Rattle.numbers.specs.declared.refusal.Refusal.{Refusal}
 use Rattle.legs.specs.Legs.{row, foot, coordinates, values}
 use Rattle.legs.specs.Answers.{lifts}
-use Rattle.legs.specs.declared.Feet.{Feet}
+use Rattle.legs.specs.Legs.{Feet}
 use Rattle.moves.specs.Answers.{of_feet}
 use Rattle.commands.specs.Answers.{tripod_mark}
 use Rattle.commands.specs.declared.Time.{Time}
 use Rattle.steps.specs.declared.Lift.{Lift}
 use Rattle.steps.specs.declared.StepIterator.{StepIterator}
-use Rattle.steps.specs.declared.StepIter.{StepIter}
-use Rattle.steps.specs.declared.StepIter.TheVariants.{State, Refused}
-use Rattle.steps.specs.declared.TimedIter.{TimedIter}
-use Rattle.steps.specs.declared.TimedIter.TheVariants.{State as TimedState, Refused as TimedRefused}
-use Rattle.steps.specs.declared.EvenIter.{EvenIter}
-use Rattle.steps.specs.declared.EvenIter.TheVariants.{State as EvenState, Refused as EvenRefused}
-use Rattle.steps.specs.declared.NextStep.{NextStep}
-use Rattle.steps.specs.declared.NextStep.TheVariants.{Step, NoStep, Refused as StepRefused}
-use Rattle.steps.specs.declared.NextTimed.{NextTimed}
-use Rattle.steps.specs.declared.NextTimed.TheVariants.{Step as TimedStep, NoStep as NoTimedStep, Refused as TimedStepRefused}
-use Rattle.steps.specs.declared.NextEven.{NextEven}
-use Rattle.steps.specs.declared.NextEven.TheVariants.{Step as EvenStep, NoStep as NoEvenStep, Refused as EvenStepRefused}
+use Rattle.steps.specs.Next.{TimedStepIterator, EvenStepIterator}
+use Rattle.steps.specs.declared.PacedStepIterator.{PacedStepIterator}
 
 -- start, last and target, in row order
 abbrev pub course : Feet → Feet → Feet → List Float
@@ -58,40 +50,40 @@ given_step f ks xs = given (1 ∷ lifts f ++ ks) (of_feet f ++ xs)
 abbrev pub given_none : Told
 given_none = given (0 ∷ []) []
 
+-- a next step, whatever the state, of which `say` tells
+abbrev pub given_next : {S : Type 0} → (S → Told) → Option (Feet × S) → Told
+given_next say (Some r) = given_step r.0 (say r.1).marks (say r.1).values
+given_next say None = given_none
+
 -- by distance: setting out, and the next step
-abbrev pub told_step_iter : StepIter → Told
-told_step_iter (State s) = given (step_marks s) (step_values s)
-told_step_iter (Refused n) = refused n
+abbrev pub given_step_iter : StepIterator → Told
+given_step_iter s = given (step_marks s) (step_values s)
 
-abbrev pub told_next_step : NextStep → Told
-told_next_step (Step f s) = given_step f (step_marks s) (step_values s)
-told_next_step NoStep = given_none
-told_next_step (StepRefused n) = refused n
+abbrev pub told_step_iter : Result StepIterator Refusal → Told
+told_step_iter r = told_by given_step_iter r
 
--- by time
-abbrev pub told_timed_iter : TimedIter → Told
-told_timed_iter (TimedState s) =
-    given (lift_marks s.lift s.period s.start s.last s.target) (lift_values s.lift s.start s.last s.target)
-told_timed_iter (TimedRefused n) = refused n
+abbrev pub told_next_step : Result (Option (Feet × StepIterator)) Refusal → Told
+told_next_step r = told_by (given_next given_step_iter) r
 
-abbrev pub told_next_timed : NextTimed → Told
-told_next_timed (TimedStep f s) =
-    given_step f
-    (lift_marks s.lift s.period s.start s.last s.target)
-    (lift_values s.lift s.start s.last s.target)
-told_next_timed NoTimedStep = given_none
-told_next_timed (TimedStepRefused n) = refused n
+-- by time, at either pace
+abbrev pub given_paced_iter : {pace : ℕ} → PacedStepIterator pace → Told
+given_paced_iter s = given (lift_marks s.lift s.period s.start s.last s.target) (lift_values s.lift s.start s.last s.target)
 
--- at even pace
-abbrev pub told_even_iter : EvenIter → Told
-told_even_iter (EvenState s) =
-    given (lift_marks s.lift s.period s.start s.last s.target) (lift_values s.lift s.start s.last s.target)
-told_even_iter (EvenRefused n) = refused n
+abbrev pub told_paced_iter : {pace : ℕ} → Result (PacedStepIterator pace) Refusal → Told
+told_paced_iter r = told_by given_paced_iter r
 
-abbrev pub told_next_even : NextEven → Told
-told_next_even (EvenStep f s) =
-    given_step f
-    (lift_marks s.lift s.period s.start s.last s.target)
-    (lift_values s.lift s.start s.last s.target)
-told_next_even NoEvenStep = given_none
-told_next_even (EvenStepRefused n) = refused n
+abbrev pub told_next_paced : {pace : ℕ} → Result (Option (Feet × PacedStepIterator pace)) Refusal → Told
+told_next_paced r = told_by (given_next given_paced_iter) r
+
+-- a next step by each of the three iterators, and what is told of an answer at even pace
+abbrev pub given_next_step : Option (Feet × StepIterator) → Told
+given_next_step = given_next given_step_iter
+
+abbrev pub given_next_timed : Option (Feet × TimedStepIterator) → Told
+given_next_timed = given_next given_paced_iter
+
+abbrev pub given_next_even : Option (Feet × EvenStepIterator) → Told
+given_next_even = given_next given_paced_iter
+
+abbrev pub told_next_even : Result (Option (Feet × EvenStepIterator)) Refusal → Told
+told_next_even r = told_next_paced r

@@ -3,45 +3,34 @@
 use Rattle.commands.specs.Constants.{nought, one}
 use Rattle.commands.specs.How.{capped}
 use Rattle.commands.specs.declared.Time.{Time}
-use Rattle.std.specs.Prelude.{ℕ, Bool, true, ◌&&◌, ◌||◌}
-use Rattle.std.specs.Prelude.{Float}
+use Rattle.std.specs.Prelude.{⊤, ℕ, Bool, true, false, ◌&&◌, ◌||◌}
+use Rattle.std.specs.Prelude.{Float, Option, Some, None, Result, Ok, Err}
 use Rattle.std.specs.Float.{binary32}
 use Rattle.std.specs.Float.Ieee.{add, mul, lt, le}
 use Rattle.numbers.specs.Told.{choose}
+use Rattle.numbers.specs.declared.refusal.Refusal.{Refusal}
+use Rattle.numbers.specs.declared.refusal.Refusal.TheVariants.{NotFinite, Outside, Time as OutOfTime}
 use Rattle.numbers.specs.Door.{finite, permits}
 use Rattle.numbers.specs.Limits.{foot_limit, max_move, direction}
 use Rattle.legs.specs.Legs.{points, finite_points, permitted_points, finite_feet, permitted_feet}
 use Rattle.legs.specs.declared.Point.{Point}
-use Rattle.legs.specs.declared.Feet.{Feet}
+use Rattle.legs.specs.Legs.{Feet, Points}
 use Rattle.sines.specs.How.{sine}
 use Rattle.moves.specs.Distance.{same, max_horizontal_distance}
-use Rattle.moves.specs.declared.MoveStep.{MoveStep}
-use Rattle.moves.specs.declared.MoveStep.TheVariants.{Moved, Arrived}
-use Rattle.moves.specs.declared.unchecked.PointsStep.{PointsStep}
-use Rattle.moves.specs.declared.unchecked.PointsStep.TheVariants.{Moved as PointsMoved, Arrived as PointsArrived}
+use Rattle.moves.specs.declared.Step.{Step}
+use Rattle.moves.specs.declared.Step.TheVariants.{Moved, Arrived}
 use Rattle.steps.specs.Leg.{half, half_turn, part_way}
-use Rattle.steps.specs.Progress.{step_progress, even_progress}
+use Rattle.steps.specs.Progress.{step_progress, timed_progress, even_progress}
 use Rattle.steps.specs.Refusals.{timely}
 use Rattle.steps.specs.Shift.{shift_legs}
 use Rattle.steps.specs.Marks.{stepped}
-use Rattle.steps.specs.Next.{step_ended, timed_ended, step_last, timed_last, even_last}
+use Rattle.steps.specs.Next.{EvenStepIterator, step_ended, timed_ended, step_last, paced_last}
 use Rattle.steps.specs.declared.Lift.{Lift}
 use Rattle.steps.specs.declared.StepIterator.{StepIterator}
-use Rattle.steps.specs.declared.TimedStepIterator.{TimedStepIterator}
-use Rattle.steps.specs.declared.EvenStepIterator.{EvenStepIterator}
-use Rattle.steps.specs.declared.NextStep.{NextStep}
-use Rattle.steps.specs.declared.NextStep.TheVariants.{Step, NoStep as NoNextStep, Refused as StepRefused}
-use Rattle.steps.specs.declared.NextTimed.{NextTimed}
-use Rattle.steps.specs.declared.NextTimed.TheVariants.{Step as TimedStep, NoStep as NoTimedStep, Refused as TimedRefused}
-use Rattle.steps.specs.declared.NextEven.{NextEven}
-use Rattle.steps.specs.declared.NextEven.TheVariants.{Step as EvenStep, NoStep as NoEvenStep, Refused as EvenRefused}
+use Rattle.steps.specs.declared.PacedStepIterator.{PacedStepIterator}
 use Rattle.steps.specs.declared.unchecked.Course.{Course}
 use Rattle.steps.specs.declared.unchecked.Pace.{Pace}
 use Rattle.steps.specs.declared.unchecked.Pace.TheVariants.{Distance, Timed, Even}
-use Rattle.steps.specs.declared.unchecked.Way.{Way}
-use Rattle.steps.specs.declared.unchecked.Way.TheVariants.{At, Nowhere}
-use Rattle.steps.specs.declared.unchecked.Made.{Made}
-use Rattle.steps.specs.declared.unchecked.Made.TheVariants.{Feet as MadeFeet, NoStep, Refused}
 
 unfoldable pub at_once : Bool → Float → Bool
 at_once aggressive progress = aggressive && lt progress half
@@ -56,7 +45,7 @@ unfoldable pub raised : Bool → Float → Float → Float
 raised now swung height = choose now height (mul binary32 swung height)
 
 -- a leg's step, where the foot is this far above its start
-unfoldable pub leg_at : Point → Point → Point → Float → Float → MoveStep
+unfoldable pub leg_at : Point → Point → Point → Float → Float → Step Point
 leg_at start last target progress up =
     choose (same last target)
     (Arrived target)
@@ -102,52 +91,67 @@ permitted_paced c lift pace =
     && permits direction lift.grounded_leg_descent
 
 -- how far it is, or that there is none
-unfoldable pub by_distance : Course → Float → Way
+unfoldable pub by_distance : Course → Float → Option Float
 by_distance c m =
     let full = max_horizontal_distance c.start c.target in
-    choose (step_ended full) Nowhere (At (step_progress (max_horizontal_distance (points c.last) c.start) m full))
+    choose (step_ended full) None (Some (step_progress (max_horizontal_distance (points c.last) c.start) m full))
 
-unfoldable pub sideways : Course → Float → Way
-sideways c p = choose (timed_ended (max_horizontal_distance c.start c.target)) Nowhere (At p)
+unfoldable pub sideways : Course → Float → Option Float
+sideways c p = choose (timed_ended (max_horizontal_distance c.start c.target)) None (Some p)
 
-abbrev pub way_of : Course → Pace → Way
+abbrev pub way_of : Course → Pace → Option Float
 way_of c (Distance m) = by_distance c m
 way_of c (Timed p) = sideways c p
-way_of c (Even p) = At p
+way_of c (Even p) = Some p
 
 -- what it makes of the feet
-abbrev pub reached : Course → Lift → PointsStep → Made
-reached c lift (PointsMoved p) = MadeFeet (stepped lift.tripod c.last c.target p)
-reached c lift (PointsArrived p) = NoStep
+abbrev pub reached : Course → Lift → Step Points → Option Feet
+reached c lift (Moved p) = Some (stepped lift.tripod c.last c.target p)
+reached c lift (Arrived p) = None
 
-abbrev pub on_its_way : Course → Lift → Way → Made
-on_its_way c lift (At p) = reached c lift (shift_legs c.start (points c.last) c.target lift p)
-on_its_way c lift Nowhere = NoStep
+abbrev pub on_its_way : Course → Lift → Option Float → Option Feet
+on_its_way c lift (Some p) = reached c lift (shift_legs c.start (points c.last) c.target lift p)
+on_its_way c lift None = None
 
--- the door first; whether its times are in the table is known already
-unfoldable pub step_made : Course → Lift → Pace → Bool → Made
-step_made c lift pace timely =
+-- the door, as ours looks: what is permitted is finite, so that numbers are let through by one test; whether its times are in the table is
+-- known already
+abbrev pub admission : Course → Lift → Pace → Bool → Result ⊤ Refusal
+admission c lift pace timely =
     choose (permitted_paced c lift pace)
-    (choose timely (on_its_way c lift (way_of c pace)) (Refused 3))
-    (Refused (choose (finite_paced c lift pace) 2 1))
+    (choose timely (Ok tt) (Err OutOfTime))
+    (Err (choose (finite_paced c lift pace) Outside NotFinite))
 
--- at even pace, by its two times
-abbrev pub even_made : Course → Time → Lift → Time → Made
-even_made c period lift elapsed =
-    step_made c lift (Even (even_progress (capped elapsed) (capped period))) (timely elapsed period)
+-- and what is answered behind it
+abbrev pub behind : {A : Type 0} → Result ⊤ Refusal → A → Result A Refusal
+behind (Ok u) a = Ok a
+behind (Err r) a = Err r
 
--- what follows for a state
-abbrev pub step_of : StepIterator → Made → NextStep
-step_of s (MadeFeet f) = Step f (step_last s f)
-step_of s NoStep = NoNextStep
-step_of s (Refused n) = StepRefused n
+unfoldable pub step_made : Course → Lift → Pace → Bool → Result (Option Feet) Refusal
+step_made c lift pace timely = behind (admission c lift pace timely) (on_its_way c lift (way_of c pace))
 
-abbrev pub timed_of : TimedStepIterator → Made → NextTimed
-timed_of s (MadeFeet f) = TimedStep f (timed_last s f)
-timed_of s NoStep = NoTimedStep
-timed_of s (Refused n) = TimedRefused n
+-- by time, evenly or as the source paces it
+abbrev pub pace_of : Bool → Time → Time → Pace
+pace_of true elapsed period = Even (even_progress (capped elapsed) (capped period))
+pace_of false elapsed period = Timed (timed_progress (capped elapsed) (capped period))
 
-abbrev pub even_of : EvenStepIterator → Made → NextEven
-even_of s (MadeFeet f) = EvenStep f (even_last s f)
-even_of s NoStep = NoEvenStep
-even_of s (Refused n) = EvenRefused n
+abbrev pub paced_made : Bool → Course → Time → Lift → Time → Result (Option Feet) Refusal
+paced_made even c period lift elapsed = step_made c lift (pace_of even elapsed period) (timely elapsed period)
+
+abbrev pub even_made : Course → Time → Lift → Time → Result (Option Feet) Refusal
+even_made c period lift elapsed = paced_made true c period lift elapsed
+
+-- what follows for a state, which remembers the feet that were made
+abbrev pub following : {S : Type 0} → (Feet → S) → Result (Option Feet) Refusal → Result (Option (Feet × S)) Refusal
+following last (Ok (Some f)) = Ok (Some (f, last f))
+following last (Ok None) = Ok None
+following last (Err r) = Err r
+
+abbrev pub step_of : StepIterator → Result (Option Feet) Refusal → Result (Option (Feet × StepIterator)) Refusal
+step_of s = following (step_last s)
+
+abbrev pub paced_of : {pace : ℕ} → PacedStepIterator pace → Result (Option Feet) Refusal
+    → Result (Option (Feet × PacedStepIterator pace)) Refusal
+paced_of s = following (paced_last s)
+
+abbrev pub even_of : EvenStepIterator → Result (Option Feet) Refusal → Result (Option (Feet × EvenStepIterator)) Refusal
+even_of s = paced_of s

@@ -11,8 +11,8 @@ use Rattle.numbers.specs.Limits.{over}
 use Rattle.legs.specs.declared.Point.{Point}
 use Rattle.sines.specs.How.{sine}
 use Rattle.moves.specs.Distance.{same}
-use Rattle.moves.specs.declared.MoveStep.{MoveStep}
-use Rattle.moves.specs.declared.MoveStep.TheVariants.{Moved, Arrived}
+use Rattle.moves.specs.declared.Step.{Step}
+use Rattle.moves.specs.declared.Step.TheVariants.{Moved, Arrived}
 
 unfoldable pub half : Float
 half = over 1 2
@@ -31,7 +31,7 @@ above height progress aggressive =
     height
     (mul binary32 (sine (mul binary32 progress half_turn)) height)
 
-unfoldable pub step_lifted_leg : Point → Point → Point → Float → Float → Bool → MoveStep
+unfoldable pub step_lifted_leg : Point → Point → Point → Float → Float → Bool → Step Point
 step_lifted_leg start last target height progress aggressive =
     choose (same last target)
     (Arrived target)

@@ -5,8 +5,8 @@ use Rattle.std.specs.Prelude.{Bool, not, ◌&&◌}
 use Rattle.numbers.specs.Told.{choose}
 use Rattle.legs.specs.Legs.{Leg, point, foot, lifted, marked}
 use Rattle.legs.specs.declared.Point.{Point}
-use Rattle.legs.specs.declared.Points.{Points}
-use Rattle.legs.specs.declared.Feet.{Feet}
+use Rattle.legs.specs.Legs.{Points}
+use Rattle.legs.specs.Legs.{Feet}
 use Rattle.moves.specs.Distance.{same}
 use Rattle.commands.specs.Tripods.{has}
 use Rattle.commands.specs.declared.Tripod.{Tripod}

@@ -2,7 +2,7 @@
 use Rattle.std.specs.Prelude.{ℕ, Bool, ◌&&◌, [], ◌∷◌}
 use Rattle.numbers.specs.Door.{finite, permits, unless, first_of}
 use Rattle.numbers.specs.Limits.{foot_limit, max_move, direction}
-use Rattle.legs.specs.declared.Feet.{Feet}
+use Rattle.legs.specs.Legs.{Feet}
 use Rattle.legs.specs.Legs.{finite_feet, permitted_feet}
 use Rattle.commands.specs.Times.{elapsed_permitted, period_permitted}
 use Rattle.commands.specs.declared.Time.{Time}

@@ -4,19 +4,22 @@
 
 ghost use Rattle.std.specs.Prelude.{◌≡◌};
 ghost use Rattle.numbers.specs.Answers.{told};
-ghost use Rattle.steps.specs.Answers.{told_step_iter, told_next_step, told_timed_iter, told_next_timed, told_even_iter, told_next_even};
+ghost use Rattle.numbers.specs.Refusals.{number_or_0};
+ghost use Rattle.steps.specs.Answers.{told_step_iter, told_next_step, told_paced_iter, told_next_paced};
+ghost use Rattle.steps.specs.Next.{step_lift};
 ghost use Rattle.steps.specs.Refusals.{progress_refusal, step_refusal, lift_refusal};
 ghost use Rattle.steps.specs.Entries.{timed_progress_told, even_progress_told, step_iter_told, next_step_told};
-ghost use Rattle.steps.specs.Entries.{timed_iter_told, next_timed_told, next_even_told};
+ghost use Rattle.steps.specs.Entries.{timed_iter_told, next_paced_told};
 
 use commands::{Time, Tripod};
 use legs::Feet;
-use numbers::{Answer, door};
+use numbers::{Refusal, door};
+use unchecked::Pace;
 
 pub mod unchecked;
 
-// How the feet are lifted. In aggressive mode they rise to full height at once.
-#[derive(Clone, Copy)]
+/// How the feet are lifted, in metres. In aggressive mode they rise to full height at once.
+#[derive(Clone, Copy, Debug, PartialEq)]
 pub struct Lift {
     pub step_height: f32,
     pub grounded_leg_descent: f32,
@@ -24,8 +27,10 @@ pub struct Lift {
     pub aggressive_leg_lift: bool,
 }
 
-// A step by distance: max_move more at each turn.
-#[derive(Clone, Copy)]
+// Kept: a state of its own beside `PacedStepIterator`, which has other fields: a step by distance has no period and no descent.
+
+/// A step by distance: `max_move` more, in metres, at each turn.
+#[derive(Clone, Copy, Debug, PartialEq)]
 pub struct StepIterator {
     pub start: Feet,
     pub last: Feet,
@@ -36,9 +41,9 @@ pub struct StepIterator {
     pub aggressive_leg_lift: bool,
 }
 
-// A step by time, as the source paces it.
-#[derive(Clone, Copy)]
-pub struct TimedStepIterator {
+/// A step by time: at even pace, where it ends only with every foot at its target, or else as the source paces it.
+#[derive(Clone, Copy, Debug, PartialEq)]
+pub struct PacedStepIterator<const EVEN: bool> {
     pub start: Feet,
     pub last: Feet,
     pub target: Feet,
@@ -46,129 +51,78 @@ pub struct TimedStepIterator {
     pub lift: Lift,
 }
 
-// A step by time at even pace. It ends only where every foot is at its target.
-#[derive(Clone, Copy)]
-pub struct EvenStepIterator {
-    pub start: Feet,
-    pub last: Feet,
-    pub target: Feet,
-    pub period: Time,
-    pub lift: Lift,
-}
+/// A step by time, as the source paces it.
+pub type TimedStepIterator = PacedStepIterator<false>;
 
-// What setting out answers: the state, or why not.
-#[derive(Clone, Copy)]
-pub enum StepIter {
-    State(StepIterator),
-    Refused(u32),
-}
+/// A step by time at even pace.
+pub type EvenStepIterator = PacedStepIterator<true>;
 
-#[derive(Clone, Copy)]
-pub enum TimedIter {
-    State(TimedStepIterator),
-    Refused(u32),
-}
-
-#[derive(Clone, Copy)]
-pub enum EvenIter {
-    State(EvenStepIterator),
-    Refused(u32),
-}
-
-// What the next step answers: the feet now and the state after, that there is no step, or why not.
-#[derive(Clone, Copy)]
-pub enum NextStep {
-    Step(Feet, StepIterator),
-    NoStep,
-    Refused(u32),
-}
-
-#[derive(Clone, Copy)]
-pub enum NextTimed {
-    Step(Feet, TimedStepIterator),
-    NoStep,
-    Refused(u32),
-}
-
-#[derive(Clone, Copy)]
-pub enum NextEven {
-    Step(Feet, EvenStepIterator),
-    NoStep,
-    Refused(u32),
-}
-
-// 3 where one of the two times is outside the table, else 0.
-pub fn progress_refused(elapsed: Time, period: Time) -> u32
-    ensures { result ≡ progress_refusal elapsed period }
+/// Refuses a time outside the table, elapsed or period.
+#[tactic(auto, unfolding(crate::specs::Refusals::progress_refusal))]
+pub fn admit_progress(elapsed: Time, period: Time) -> Result<(), Refusal>
+    ensures { number_or_0 result ≡ progress_refusal elapsed period }
 {
-    door::unless(unchecked::is_timely(elapsed, period), 3)
+    door::ensure(unchecked::is_timely(elapsed, period), Refusal::Time)
 }
 
-// How far a timed step is: 0 at its start, 1 and more when it is done.
-pub fn timed_progress(elapsed: Time, period: Time) -> Answer
+/// How far a timed step is: 0 at its start, 1 and more when it is done. A time outside the table is refused.
+#[tactic(auto, using(crate::proofs::Uncapped::progress_entry), unfolding(crate::specs::Entries::timed_progress_told))]
+pub fn timed_progress(elapsed: Time, period: Time) -> Result<f32, Refusal>
     ensures { told result ≡ timed_progress_told elapsed period }
 {
-    let n = progress_refused(elapsed, period);
-    if n == 0 {
-        Answer::Value(unchecked::timed_progress(elapsed, period))
-    } else {
-        Answer::Refused(n)
-    }
+    admit_progress(elapsed, period)?;
+    Ok(unchecked::timed_progress(elapsed, period))
 }
 
-// The same at even pace.
-pub fn even_progress(elapsed: Time, period: Time) -> Answer
+/// The same at even pace.
+#[tactic(auto, using(crate::proofs::Uncapped::progress_entry), unfolding(crate::specs::Entries::even_progress_told))]
+pub fn even_progress(elapsed: Time, period: Time) -> Result<f32, Refusal>
     ensures { told result ≡ even_progress_told elapsed period }
 {
-    let n = progress_refused(elapsed, period);
-    if n == 0 {
-        Answer::Value(unchecked::even_progress(elapsed, period))
-    } else {
-        Answer::Refused(n)
-    }
+    admit_progress(elapsed, period)?;
+    Ok(unchecked::even_progress(elapsed, period))
 }
 
-// Why a step by distance is refused: the lowest number that applies, or 0.
-pub fn step_refused(s: StepIterator) -> u32
-    ensures { result ≡ step_refusal s }
+/// Why a step by distance is refused: the lowest number that applies.
+#[tactic(auto, using(crate::proofs::Paces::admitted_by_distance))]
+pub fn admit_step(state: StepIterator) -> Result<(), Refusal>
+    ensures { number_or_0 result ≡ step_refusal state }
 {
-    let c = unchecked::course_of(s.start, s.last, s.target);
-    let permitted = unchecked::course_permitted(c)
-        & door::is_permitted(numbers::limits::max_move(), s.max_move)
-        & door::is_permitted(numbers::limits::direction(), s.step_height);
-    if permitted {
-        0
-    } else {
-        door::outside(
-            unchecked::course_finite(c)
-                & door::is_finite(s.max_move)
-                & door::is_finite(s.step_height),
-        )
-    }
+    let course = unchecked::course_of(state.start, state.last, state.target);
+    unchecked::admit(course, state.lift(), Pace::Distance(state.max_move), true)
 }
 
-// Why a step by time is refused: the lowest number that applies, or 0. Whether its times are in the table is known already.
-pub fn lift_refused(start: Feet, last: Feet, target: Feet, lift: Lift, timely: bool) -> u32
-    ensures { result ≡ lift_refusal start last target lift timely }
+/// Why a step by time is refused: the lowest number that applies. Whether its times are in the table is known already.
+#[tactic(auto, using(crate::proofs::Paces::admitted_by_time))]
+pub fn admit_lift(
+    start: Feet,
+    last: Feet,
+    target: Feet,
+    lift: Lift,
+    timely: bool,
+) -> Result<(), Refusal>
+    ensures { number_or_0 result ≡ lift_refusal start last target lift timely }
 {
-    let limit = numbers::limits::direction();
-    let c = unchecked::course_of(start, last, target);
-    let permitted = unchecked::course_permitted(c)
-        & door::is_permitted(limit, lift.step_height)
-        & door::is_permitted(limit, lift.grounded_leg_descent);
-    if permitted {
-        door::unless(timely, 3)
-    } else {
-        door::outside(
-            unchecked::course_finite(c)
-                & door::is_finite(lift.step_height)
-                & door::is_finite(lift.grounded_leg_descent),
-        )
-    }
+    let course = unchecked::course_of(start, last, target);
+    unchecked::admit(course, lift, Pace::Even(0.0), timely)
 }
 
 impl StepIterator {
-    // Sets out from start; each turn brings the feet max_move further.
+    // How its feet are lifted: the source's descent is 0.
+    #[tactic(auto, using(crate::proofs::Bits::constants))]
+    fn lift(self) -> Lift
+        ensures { result ≡ step_lift self }
+    {
+        Lift {
+            step_height: self.step_height,
+            grounded_leg_descent: 0.0,
+            tripod: self.tripod,
+            aggressive_leg_lift: self.aggressive_leg_lift,
+        }
+    }
+
+    /// Sets out from start; each turn brings the feet `max_move` further.
+    #[tactic(auto, using(numbers::proofs::Admitted::entry), unfolding(crate::specs::Entries::step_iter_told))]
     pub fn step(
         start: Feet,
         target: Feet,
@@ -176,103 +130,72 @@ impl StepIterator {
         step_height: f32,
         tripod: Tripod,
         aggressive_leg_lift: bool,
-    ) -> StepIter
+    ) -> Result<StepIterator, Refusal>
         ensures { told_step_iter result ≡ step_iter_told start target max_move step_height tripod aggressive_leg_lift }
     {
         let state = StepIterator {
-            start: start,
+            start,
             last: start,
-            target: target,
-            max_move: max_move,
-            step_height: step_height,
-            tripod: tripod,
-            aggressive_leg_lift: aggressive_leg_lift,
+            target,
+            max_move,
+            step_height,
+            tripod,
+            aggressive_leg_lift,
         };
-        let n = step_refused(state);
-        if n == 0 {
-            StepIter::State(state)
-        } else {
-            StepIter::Refused(n)
-        }
+        admit_step(state)?;
+        Ok(state)
     }
 
-    // One step more. All the state's floats are looked at again. The source's descent is 0.
-    pub fn next(self) -> NextStep
+    /// One step more: the feet now and the state after, or none where the step has ended. All the state's floats are looked at again.
+    #[tactic(auto, using(crate::proofs::Paces::step_cases))]
+    pub fn next(self) -> Result<Option<(Feet, StepIterator)>, Refusal>
         ensures { told_next_step result ≡ next_step_told self }
     {
-        let c = unchecked::course_of(self.start, self.last, self.target);
-        let tripod = self.tripod;
-        let lift = Lift {
-            step_height: self.step_height,
-            grounded_leg_descent: 0.0,
-            tripod: tripod,
-            aggressive_leg_lift: self.aggressive_leg_lift,
-        };
-        let pace = unchecked::Pace::Distance(self.max_move);
-        unchecked::step_after(self, unchecked::step_made(c, lift, pace, true))
+        let course = unchecked::course_of(self.start, self.last, self.target);
+        let made = unchecked::step_made(course, self.lift(), Pace::Distance(self.max_move), true)?;
+        let Some(feet) = made else { return Ok(None) };
+        let after = StepIterator { last: feet, ..self };
+        Ok(Some((feet, after)))
     }
 }
 
-impl TimedStepIterator {
-    // Sets out from start, for a step of this period.
-    pub fn step(start: Feet, target: Feet, period: Time, lift: Lift) -> TimedIter
-        ensures { told_timed_iter result ≡ timed_iter_told start target period lift }
+impl<const EVEN: bool> PacedStepIterator<EVEN> {
+    /// Sets out from start, for a step of this period.
+    #[tactic(auto, using(numbers::proofs::Admitted::entry), unfolding(crate::specs::Entries::timed_iter_told))]
+    pub fn step(
+        start: Feet,
+        target: Feet,
+        period: Time,
+        lift: Lift,
+    ) -> Result<PacedStepIterator<EVEN>, Refusal>
+        ensures { told_paced_iter result ≡ timed_iter_told start target period lift }
     {
-        let timely = commands::unchecked::is_period(period);
-        let n = lift_refused(start, start, target, lift, timely);
-        if n == 0 {
-            TimedIter::State(TimedStepIterator {
-                start: start,
-                last: start,
-                target: target,
-                period: period,
-                lift: lift,
-            })
-        } else {
-            TimedIter::Refused(n)
-        }
+        admit_lift(
+            start,
+            start,
+            target,
+            lift,
+            commands::unchecked::is_period(period),
+        )?;
+        Ok(PacedStepIterator {
+            start,
+            last: start,
+            target,
+            period,
+            lift,
+        })
     }
 
-    // The step at this time since its start. All the state's numbers are looked at again.
-    pub fn next(self, elapsed: Time) -> NextTimed
-        ensures { told_next_timed result ≡ next_timed_told self elapsed }
+    /// The step at this time since its start: the feet now and the state after, or none where the step has ended. All the state's numbers
+    /// are looked at again.
+    #[tactic(auto, using(crate::proofs::Paces::paced_cases))]
+    pub fn next(self, elapsed: Time) -> Result<Option<(Feet, PacedStepIterator<EVEN>)>, Refusal>
+        ensures { told_next_paced result ≡ next_paced_told EVEN self.entry elapsed }
     {
-        let c = unchecked::course_of(self.start, self.last, self.target);
-        let lift = self.lift;
-        let period = self.period;
-        let timely = unchecked::is_timely(elapsed, period);
-        let pace = unchecked::Pace::Timed(unchecked::timed_progress(elapsed, period));
-        unchecked::timed_after(self, unchecked::step_made(c, lift, pace, timely))
-    }
-}
-
-impl EvenStepIterator {
-    // Sets out from start, for a step of this period.
-    pub fn step(start: Feet, target: Feet, period: Time, lift: Lift) -> EvenIter
-        ensures { told_even_iter result ≡ timed_iter_told start target period lift }
-    {
-        let timely = commands::unchecked::is_period(period);
-        let n = lift_refused(start, start, target, lift, timely);
-        if n == 0 {
-            EvenIter::State(EvenStepIterator {
-                start: start,
-                last: start,
-                target: target,
-                period: period,
-                lift: lift,
-            })
-        } else {
-            EvenIter::Refused(n)
-        }
-    }
-
-    // The step at this time since its start. All the state's numbers are looked at again.
-    pub fn next(self, elapsed: Time) -> NextEven
-        ensures { told_next_even result ≡ next_even_told self elapsed }
-    {
-        let c = unchecked::course_of(self.start, self.last, self.target);
-        let lift = self.lift;
-        let period = self.period;
-        unchecked::even_after(self, unchecked::even_made(c, period, lift, elapsed))
+        let course = unchecked::course_of(self.start, self.last, self.target);
+        let made = unchecked::paced_made(EVEN, course, self.period, self.lift, elapsed)?;
+        let Some(feet) = made else { return Ok(None) };
+        let after = PacedStepIterator { last: feet, ..self };
+        Ok(Some((feet, after)))
     }
 }

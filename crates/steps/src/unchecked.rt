@@ -1,5 +1,5 @@
 // The operations behind the door, total on every value, for the rooms above.
-ghost use Rattle.std.specs.Prelude.{◌≡◌, true};
+ghost use Rattle.std.specs.Prelude.{◌≡◌};
 ghost use Rattle.commands.specs.How.{capped};
 ghost use Rattle.steps.specs.Refusals.{timely};
 ghost use Rattle.steps.specs.Progress.{step_progress, timed_progress, even_progress};
@@ -8,70 +8,55 @@ ghost use Rattle.legs.specs.Legs.{left_front, right_front};
 ghost use Rattle.steps.specs.Shift.{height_of, shift_legs};
 ghost use Rattle.steps.specs.Marks.{mark_after, stepped};
 ghost use Rattle.steps.specs.How.{at_once, swing, raised, leg_at, course_of, finite_along, permitted_along, pace_finite, pace_permitted};
-ghost use Rattle.steps.specs.How.{by_distance, sideways, way_of, reached, on_its_way, step_made, even_made, step_of, timed_of, even_of};
+ghost use Rattle.steps.specs.How.{finite_paced, permitted_paced};
+ghost use Rattle.steps.specs.How.{by_distance, sideways, way_of, reached, on_its_way, admission, step_made, pace_of, paced_made, even_made};
 
-use crate::{
-    EvenStepIterator, Lift, NextEven, NextStep, NextTimed, StepIterator, TimedStepIterator,
-};
+use crate::Lift;
 use commands::{Time, Tripod};
-use legs::{Feet, Foot, Point, Points};
-use moves::MoveStep;
-use moves::unchecked::PointsStep;
-use numbers::door;
+use legs::{Feet, Foot, HexapodTypes, Point, Points};
+use moves::Step;
+use numbers::{Refusal, door};
 
-// From where a step goes, where the feet were last, and to where. Start and target are looked at for their points alone.
-#[derive(Clone, Copy)]
+/// From where a step goes, where the feet were last, and to where. Start and target are looked at for their points alone.
+#[derive(Clone, Copy, Debug, PartialEq)]
 pub struct Course {
     pub start: Points,
     pub last: Feet,
     pub target: Points,
 }
 
-// What a step goes by: the max move of its turn, or how far it is by time, as the source paces it or evenly.
-#[derive(Clone, Copy)]
+/// What a step goes by: the max move of its turn, or how far it is by time, as the source paces it or evenly.
+#[derive(Clone, Copy, Debug, PartialEq)]
 pub enum Pace {
     Distance(f32),
     Timed(f32),
     Even(f32),
 }
 
-// How far a step is, or that it leads nowhere.
-#[derive(Clone, Copy)]
-pub enum Way {
-    At(f32),
-    Nowhere,
-}
-
-// What a step makes: six feet, no step, or why not.
-#[derive(Clone, Copy)]
-pub enum Made {
-    Feet(Feet),
-    NoStep,
-    Refused(u32),
-}
-
 // Where in its step a leg is: how far along its way, and how far above its start.
-#[derive(Clone, Copy)]
+#[derive(Clone, Copy, Debug, PartialEq)]
 struct Stage {
     progress: f32,
     above: f32,
 }
 
-// Whether an elapsed time and a period are both in the table.
+/// Whether an elapsed time and a period are both in the table.
 pub fn is_timely(elapsed: Time, period: Time) -> bool
     ensures { result ≡ timely elapsed period }
 {
     commands::unchecked::is_elapsed(elapsed) & commands::unchecked::is_period(period)
 }
 
-// How far the step is: what the feet have gone by now and max_move more, as a part of the whole way.
+/// How far the step is: what the feet have gone by now and max_move more, as a part of the whole way.
+#[tactic(auto, unfolding(crate::specs::Progress::step_progress))]
 pub fn step_progress(gone: f32, max_move: f32, full: f32) -> f32
     ensures { result ≡ step_progress gone max_move full }
 {
     numbers::unchecked::min(gone + max_move, full) / full
 }
 
-// How far the step is by time, divided by the period twice, as in the source.
+/// How far the step is by time, divided by the period twice, as in the source.
+#[tactic(auto, unfolding(crate::specs::Progress::timed_progress))]
 pub fn timed_progress(elapsed: Time, period: Time) -> f32
     ensures { result ≡ timed_progress (capped elapsed) (capped period) }
 {
@@ -79,7 +64,8 @@ pub fn timed_progress(elapsed: Time, period: Time) -> f32
     commands::unchecked::as_secs_f32(elapsed) / seconds / seconds
 }
 
-// The same at even pace, divided once.
+/// The same at even pace, divided once.
+#[tactic(auto, unfolding(crate::specs::Progress::even_progress))]
 pub fn even_progress(elapsed: Time, period: Time) -> f32
     ensures { result ≡ even_progress (capped elapsed) (capped period) }
 {
@@ -88,6 +74,7 @@ pub fn even_progress(elapsed: Time, period: Time) -> f32
 }
 
 // Whether a foot is at its full height at once.
+#[tactic(auto, using(crate::proofs::Bits::constants), unfolding(crate::specs::How::at_once))]
 fn at_once(aggressive: bool, progress: f32) -> bool
     ensures { result ≡ at_once aggressive progress }
 {
@@ -95,6 +82,7 @@ fn at_once(aggressive: bool, progress: f32) -> bool
 }
 
 // The sine of the progress in half turns. It is asked for only where a foot's height needs it.
+#[tactic(auto, using(crate::proofs::Bits::constants), unfolding(crate::specs::How::swing))]
 fn swing(unused: bool, progress: f32) -> f32
     ensures { result ≡ swing unused progress }
 {
@@ -106,6 +94,7 @@ fn swing(unused: bool, progress: f32) -> f32
 }
 
 // How far a foot is above its start.
+#[tactic(auto, unfolding(crate::specs::How::raised))]
 fn raised(at_once: bool, swing: f32, height: f32) -> f32
     ensures { result ≡ raised at_once swing height }
 {
@@ -113,25 +102,26 @@ fn raised(at_once: bool, swing: f32, height: f32) -> f32
 }
 
 // One leg's step, at this stage.
-fn leg_at(start: Point, last: Point, target: Point, at: Stage) -> MoveStep
+#[tactic(auto, using(crate::proofs::Bits::constants), unfolding(crate::specs::How::leg_at))]
+fn leg_at(start: Point, last: Point, target: Point, at: Stage) -> Step<Point>
     ensures { result ≡ leg_at start last target at.progress at.above }
 {
-    let progress = at.progress;
-    let above = at.above;
+    let Stage { progress, above } = at;
     if moves::unchecked::is_same(last, target) {
-        return MoveStep::Arrived(target);
+        return Step::Arrived(target);
     }
     if 1.0 <= progress {
-        return MoveStep::Moved(target);
+        return Step::Moved(target);
     }
-    MoveStep::Moved(Point {
+    Step::Moved(Point {
         x: start.x + (target.x - start.x) * progress,
         y: start.y + (target.y - start.y) * progress,
         z: above + start.z,
     })
 }
 
-// One leg's step.
+/// One leg's step.
+#[tactic(auto, using(crate::proofs::Legs::leg_is))]
 pub fn step_lifted_leg(
     start: Point,
     last: Point,
@@ -139,187 +129,174 @@ pub fn step_lifted_leg(
     height: f32,
     progress: f32,
     aggressive: bool,
-) -> MoveStep
+) -> Step<Point>
     ensures { result ≡ step_lifted_leg start last target height progress aggressive }
 {
     let now = at_once(aggressive, progress);
     let at = Stage {
-        progress: progress,
+        progress,
         above: raised(now, swing(now, progress), height),
     };
     leg_at(start, last, target, at)
 }
 
-// The height of left front, right middle and left rear: the step's where they are lifted, else the descent.
-fn height_lrl(lift: Lift) -> f32
-    ensures { result ≡ height_of lift left_front }
+// The heights of left front, right middle and left rear, and of the other three: the step's for those that are lifted, else the descent.
+fn heights(lift: Lift) -> (f32, f32)
+    ensures { result ≡ (height_of lift left_front, height_of lift right_front) }
 {
-    let tripod = lift.tripod;
-    match tripod {
-        Tripod::LRL => lift.step_height,
-        Tripod::RLR => lift.grounded_leg_descent,
+    match lift.tripod {
+        Tripod::LRL => (lift.step_height, lift.grounded_leg_descent),
+        Tripod::RLR => (lift.grounded_leg_descent, lift.step_height),
     }
 }
 
-// The height of the other three.
-fn height_rlr(lift: Lift) -> f32
-    ensures { result ≡ height_of lift right_front }
-{
-    let tripod = lift.tripod;
-    match tripod {
-        Tripod::LRL => lift.grounded_leg_descent,
-        Tripod::RLR => lift.step_height,
-    }
-}
-
-// All six legs follow the one rule; the three that stand use the descent as height.
+/// All six legs follow the one rule; the three that stand use the descent as height.
+// Kept: the six calls. Each takes of four sixes, start, last, target and stage; zip_with joins two, and nested pairs are no plainer.
+#[tactic(auto, using(crate::proofs::Legs::leg_is), unfolding(crate::specs::Shift::shift_legs))]
 pub fn shift_legs(
     start: Points,
     last: Points,
     target: Points,
     lift: Lift,
     progress: f32,
-) -> PointsStep
+) -> Step<Points>
     ensures { result ≡ shift_legs start last target lift progress }
 {
     let now = at_once(lift.aggressive_leg_lift, progress);
     let swing = swing(now, progress);
+    let (height_lrl, height_rlr) = heights(lift);
     let lrl = Stage {
-        progress: progress,
-        above: raised(now, swing, height_lrl(lift)),
+        progress,
+        above: raised(now, swing, height_lrl),
     };
     let rlr = Stage {
-        progress: progress,
-        above: raised(now, swing, height_rlr(lift)),
+        progress,
+        above: raised(now, swing, height_rlr),
     };
-    moves::unchecked::together(
-        leg_at(start.left_front, last.left_front, target.left_front, lrl),
-        leg_at(start.right_front, last.right_front, target.right_front, rlr),
-        leg_at(start.left_middle, last.left_middle, target.left_middle, rlr),
-        leg_at(
+    moves::unchecked::together(HexapodTypes {
+        left_front: leg_at(start.left_front, last.left_front, target.left_front, lrl),
+        left_middle: leg_at(start.left_middle, last.left_middle, target.left_middle, rlr),
+        left_rear: leg_at(start.left_rear, last.left_rear, target.left_rear, lrl),
+        right_front: leg_at(start.right_front, last.right_front, target.right_front, rlr),
+        right_middle: leg_at(
             start.right_middle,
             last.right_middle,
             target.right_middle,
             lrl,
         ),
-        leg_at(start.left_rear, last.left_rear, target.left_rear, lrl),
-        leg_at(start.right_rear, last.right_rear, target.right_rear, rlr),
-    )
+        right_rear: leg_at(start.right_rear, last.right_rear, target.right_rear, rlr),
+    })
 }
 
-// Whether a foot of the lifted tripod is lifted after a step: one that moved is, unless it came to its target; one that was there already
-// keeps its mark.
-fn mark_after(had: bool, last: Point, target: Point, new: Point) -> bool
-    ensures { result ≡ mark_after true had last target new }
+// Whether a foot is lifted after a step. One of the lifted tripod that moved is, unless it came to its target; any other keeps its mark.
+#[tactic(auto, unfolding(crate::specs::Marks::mark_after))]
+fn mark_after(in_tripod: bool, had: bool, last: Point, target: Point, new: Point) -> bool
+    ensures { result ≡ mark_after in_tripod had last target new }
 {
-    if moves::unchecked::is_same(last, target) {
-        had
-    } else {
+    if in_tripod && !moves::unchecked::is_same(last, target) {
         !moves::unchecked::is_same(new, target)
+    } else {
+        had
     }
 }
 
-// A foot of the lifted tripod after a step.
-fn foot_after(last: Foot, target: Point, new: Point) -> Foot
-    ensures { result ≡ record { point = new; lifted = mark_after true last.lifted last.point target new } }
+// A foot after a step.
+fn foot_after(in_tripod: bool, last: Foot, target: Point, new: Point) -> Foot
+    ensures { result ≡ record { point = new; lifted = mark_after in_tripod last.lifted last.point target new } }
 {
-    legs::unchecked::foot_at(new, mark_after(last.lifted, last.point, target, new))
+    let lifted = mark_after(in_tripod, last.lifted, last.point, target, new);
+    legs::unchecked::foot_at(new, lifted)
 }
 
-// Six feet after a step that brought them to these points. Those of the standing tripod keep their marks.
+// Six feet after a step that brought them to these points.
+// Kept: the six calls, each of which takes of four sixes, as in shift_legs.
+#[tactic(auto, unfolding(crate::specs::Marks::stepped))]
 fn stepped(tripod: Tripod, last: Feet, target: Points, new: Points) -> Feet
     ensures { result ≡ stepped tripod last target new }
 {
-    match tripod {
-        Tripod::LRL => Feet {
-            left_front: foot_after(last.left_front, target.left_front, new.left_front),
-            left_middle: legs::unchecked::foot_at(new.left_middle, last.left_middle.lifted),
-            left_rear: foot_after(last.left_rear, target.left_rear, new.left_rear),
-            right_front: legs::unchecked::foot_at(new.right_front, last.right_front.lifted),
-            right_middle: foot_after(last.right_middle, target.right_middle, new.right_middle),
-            right_rear: legs::unchecked::foot_at(new.right_rear, last.right_rear.lifted),
-        },
-        Tripod::RLR => Feet {
-            left_front: legs::unchecked::foot_at(new.left_front, last.left_front.lifted),
-            left_middle: foot_after(last.left_middle, target.left_middle, new.left_middle),
-            left_rear: legs::unchecked::foot_at(new.left_rear, last.left_rear.lifted),
-            right_front: foot_after(last.right_front, target.right_front, new.right_front),
-            right_middle: legs::unchecked::foot_at(new.right_middle, last.right_middle.lifted),
-            right_rear: foot_after(last.right_rear, target.right_rear, new.right_rear),
-        },
+    let lrl = commands::unchecked::is_lrl(tripod);
+    let rlr = !lrl;
+    Feet {
+        left_front: foot_after(lrl, last.left_front, target.left_front, new.left_front),
+        left_middle: foot_after(rlr, last.left_middle, target.left_middle, new.left_middle),
+        left_rear: foot_after(lrl, last.left_rear, target.left_rear, new.left_rear),
+        right_front: foot_after(rlr, last.right_front, target.right_front, new.right_front),
+        right_middle: foot_after(
+            lrl,
+            last.right_middle,
+            target.right_middle,
+            new.right_middle,
+        ),
+        right_rear: foot_after(rlr, last.right_rear, target.right_rear, new.right_rear),
     }
 }
 
-// The course of three sets of feet.
+/// The course of three sets of feet.
 pub fn course_of(start: Feet, last: Feet, target: Feet) -> Course
     ensures { result ≡ course_of start last target }
 {
     Course {
         start: legs::unchecked::points_of(start),
-        last: last,
+        last,
         target: legs::unchecked::points_of(target),
     }
 }
 
 // How far a step by distance is. The source has none where nothing moves sideways.
-fn by_distance(c: Course, max_move: f32) -> Way
-    ensures { result ≡ by_distance c max_move }
+#[tactic(auto, using(crate::proofs::Bits::constants), unfolding(crate::specs::How::by_distance))]
+fn by_distance(course: Course, max_move: f32) -> Option<f32>
+    ensures { result ≡ by_distance course max_move }
 {
-    let full = moves::unchecked::max_horizontal_distance(c.start, c.target);
+    let full = moves::unchecked::max_horizontal_distance(course.start, course.target);
     if full == 0.0 {
-        return Way::Nowhere;
+        return None;
     }
-    let last = legs::unchecked::points_of(c.last);
-    let gone = moves::unchecked::max_horizontal_distance(last, c.start);
-    Way::At(step_progress(gone, max_move, full))
+    let last = legs::unchecked::points_of(course.last);
+    let gone = moves::unchecked::max_horizontal_distance(last, course.start);
+    Some(step_progress(gone, max_move, full))
 }
 
 // A step by time, at this progress. The source has none where nothing moves sideways.
-fn sideways(c: Course, progress: f32) -> Way
-    ensures { result ≡ sideways c progress }
+#[tactic(auto, using(crate::proofs::Bits::constants), unfolding(crate::specs::How::sideways))]
+fn sideways(course: Course, progress: f32) -> Option<f32>
+    ensures { result ≡ sideways course progress }
 {
-    let full = moves::unchecked::max_horizontal_distance(c.start, c.target);
-    if full <= 0.0 {
-        Way::Nowhere
-    } else {
-        Way::At(progress)
-    }
+    let full = moves::unchecked::max_horizontal_distance(course.start, course.target);
+    if full <= 0.0 { None } else { Some(progress) }
 }
 
 // How far a step is by its pace. At even pace it ends only where every foot is at its target, whatever lies sideways.
-fn way_of(c: Course, pace: Pace) -> Way
-    ensures { result ≡ way_of c pace }
+fn way_of(course: Course, pace: Pace) -> Option<f32>
+    ensures { result ≡ way_of course pace }
 {
     match pace {
-        Pace::Distance(max_move) => by_distance(c, max_move),
-        Pace::Timed(progress) => sideways(c, progress),
-        Pace::Even(progress) => Way::At(progress),
+        Pace::Distance(max_move) => by_distance(course, max_move),
+        Pace::Timed(progress) => sideways(course, progress),
+        Pace::Even(progress) => Some(progress),
     }
 }
 
 // The feet of a step, where one moved.
-fn reached(c: Course, lift: Lift, step: PointsStep) -> Made
-    ensures { result ≡ reached c lift step }
+fn reached(course: Course, lift: Lift, step: Step<Points>) -> Option<Feet>
+    ensures { result ≡ reached course lift step }
 {
-    let tripod = lift.tripod;
     match step {
-        PointsStep::Moved(points) => Made::Feet(stepped(tripod, c.last, c.target, points)),
-        PointsStep::Arrived(_) => Made::NoStep,
+        Step::Moved(points) => Some(stepped(lift.tripod, course.last, course.target, points)),
+        Step::Arrived(_) => None,
     }
 }
 
-// What a step makes that is so far on its way.
-fn on_its_way(c: Course, lift: Lift, way: Way) -> Made
-    ensures { result ≡ on_its_way c lift way }
+// The feet of a step that is so far on its way, where it leads anywhere and a foot moved.
+fn on_its_way(course: Course, lift: Lift, way: Option<f32>) -> Option<Feet>
+    ensures { result ≡ on_its_way course lift way }
 {
-    match way {
-        Way::At(progress) => {
-            let last = legs::unchecked::points_of(c.last);
-            let step = shift_legs(c.start, last, c.target, lift, progress);
-            reached(c, lift, step)
-        }
-        Way::Nowhere => Made::NoStep,
-    }
+    let progress = way?;
+    let last = legs::unchecked::points_of(course.last);
+    reached(
+        course,
+        lift,
+        shift_legs(course.start, last, course.target, lift, progress),
+    )
 }
 
 // Whether what a pace was given is in the table, and whether it is finite.
@@ -328,8 +305,7 @@ fn pace_permitted(pace: Pace) -> bool
 {
     match pace {
         Pace::Distance(max_move) => door::is_permitted(numbers::limits::max_move(), max_move),
-        Pace::Timed(_) => true,
-        Pace::Even(_) => true,
+        Pace::Timed(_) | Pace::Even(_) => true,
     }
 }
 
@@ -338,106 +314,115 @@ fn pace_finite(pace: Pace) -> bool
 {
     match pace {
         Pace::Distance(max_move) => door::is_finite(max_move),
-        Pace::Timed(_) => true,
-        Pace::Even(_) => true,
+        Pace::Timed(_) | Pace::Even(_) => true,
     }
 }
 
-// One step more, of any of the three iterators, its door included. One function for all three stays apart from its callers, which are then
-// small, and a caller that does not use the state after pays nothing for it.
-pub fn step_made(c: Course, lift: Lift, pace: Pace, timely: bool) -> Made
-    ensures { result ≡ step_made c lift pace timely }
+// Whether all floats of a step are in the table, and whether they are finite.
+fn permitted_paced(course: Course, lift: Lift, pace: Pace) -> bool
+    ensures { result ≡ permitted_paced course lift pace }
 {
     let limit = numbers::limits::direction();
-    let permitted = course_permitted(c)
+    course_permitted(course)
         & pace_permitted(pace)
         & door::is_permitted(limit, lift.step_height)
-        & door::is_permitted(limit, lift.grounded_leg_descent);
-    if permitted {
-        if timely {
-            on_its_way(c, lift, way_of(c, pace))
-        } else {
-            Made::Refused(3)
-        }
+        & door::is_permitted(limit, lift.grounded_leg_descent)
+}
+
+fn finite_paced(course: Course, lift: Lift, pace: Pace) -> bool
+    ensures { result ≡ finite_paced course lift pace }
+{
+    course_finite(course)
+        & pace_finite(pace)
+        & door::is_finite(lift.step_height)
+        & door::is_finite(lift.grounded_leg_descent)
+}
+
+// Refuses what the door does not let through, by the lowest number that applies. Whether its times are in the table is known already.
+#[tactic(auto, using(crate::proofs::OnePass::turned_away))]
+pub(crate) fn admit(course: Course, lift: Lift, pace: Pace, timely: bool) -> Result<(), Refusal>
+    ensures { result ≡ admission course lift pace timely }
+{
+    if !permitted_paced(course, lift, pace) {
+        Err(door::outside(finite_paced(course, lift, pace)))
+    } else if timely {
+        Ok(())
     } else {
-        Made::Refused(door::outside(
-            course_finite(c)
-                & pace_finite(pace)
-                & door::is_finite(lift.step_height)
-                & door::is_finite(lift.grounded_leg_descent),
-        ))
+        Err(Refusal::Time)
     }
 }
 
-// The step of a course at even pace, for one who keeps no state of it.
-pub fn even_made(c: Course, period: Time, lift: Lift, elapsed: Time) -> Made
-    ensures { result ≡ even_made c period lift elapsed }
+/// One step more, of any of the three iterators, its door included. One function for all three stays apart from its callers, which are then
+/// small, and a caller that does not use the state after pays nothing for it.
+#[tactic(auto, unfolding(crate::specs::How::step_made))]
+pub fn step_made(
+    course: Course,
+    lift: Lift,
+    pace: Pace,
+    timely: bool,
+) -> Result<Option<Feet>, Refusal>
+    ensures { result ≡ step_made course lift pace timely }
 {
-    let timely = is_timely(elapsed, period);
-    let pace = Pace::Even(even_progress(elapsed, period));
-    step_made(c, lift, pace, timely)
+    admit(course, lift, pace, timely)?;
+    Ok(on_its_way(course, lift, way_of(course, pace)))
 }
 
-// The step of a state, and the state that remembers its feet: by distance,
-pub fn step_after(s: StepIterator, made: Made) -> NextStep
-    ensures { result ≡ step_of s made }
+// The pace of a step by time, even or the source's.
+fn pace_of(even: bool, elapsed: Time, period: Time) -> Pace
+    ensures { result ≡ pace_of even elapsed period }
 {
-    match made {
-        Made::Feet(feet) => {
-            let mut after = s;
-            after.last = feet;
-            NextStep::Step(feet, after)
-        }
-        Made::NoStep => NextStep::NoStep,
-        Made::Refused(n) => NextStep::Refused(n),
+    if even {
+        Pace::Even(even_progress(elapsed, period))
+    } else {
+        Pace::Timed(timed_progress(elapsed, period))
     }
 }
 
-// by time,
-pub fn timed_after(s: TimedStepIterator, made: Made) -> NextTimed
-    ensures { result ≡ timed_of s made }
+/// The step of a course by time, at even pace or as the source paces it, for one who keeps no state of it.
+pub fn paced_made(
+    even: bool,
+    course: Course,
+    period: Time,
+    lift: Lift,
+    elapsed: Time,
+) -> Result<Option<Feet>, Refusal>
+    ensures { result ≡ paced_made even course period lift elapsed }
 {
-    match made {
-        Made::Feet(feet) => {
-            let mut after = s;
-            after.last = feet;
-            NextTimed::Step(feet, after)
-        }
-        Made::NoStep => NextTimed::NoStep,
-        Made::Refused(n) => NextTimed::Refused(n),
-    }
+    step_made(
+        course,
+        lift,
+        pace_of(even, elapsed, period),
+        is_timely(elapsed, period),
+    )
 }
 
-// and at even pace.
-pub fn even_after(s: EvenStepIterator, made: Made) -> NextEven
-    ensures { result ≡ even_of s made }
+/// The same at even pace.
+pub fn even_made(
+    course: Course,
+    period: Time,
+    lift: Lift,
+    elapsed: Time,
+) -> Result<Option<Feet>, Refusal>
+    ensures { result ≡ even_made course period lift elapsed }
 {
-    match made {
-        Made::Feet(feet) => {
-            let mut after = s;
-            after.last = feet;
-            NextEven::Step(feet, after)
-        }
-        Made::NoStep => NextEven::NoStep,
-        Made::Refused(n) => NextEven::Refused(n),
-    }
+    paced_made(true, course, period, lift, elapsed)
 }
 
-// Whether every coordinate of start, last and target is finite.
-pub fn course_finite(c: Course) -> bool
-    ensures { result ≡ finite_along c }
+/// Whether every coordinate of start, last and target is finite.
+pub fn course_finite(course: Course) -> bool
+    ensures { result ≡ finite_along course }
 {
-    legs::unchecked::points_finite(c.start)
-        & legs::unchecked::feet_finite(c.last)
-        & legs::unchecked::points_finite(c.target)
+    legs::unchecked::points_finite(course.start)
+        & legs::unchecked::feet_finite(course.last)
+        & legs::unchecked::points_finite(course.target)
 }
 
-// Whether every coordinate of start, last and target is in the table.
-pub fn course_permitted(c: Course) -> bool
-    ensures { result ≡ permitted_along c }
+/// Whether every coordinate of start, last and target is in the table.
+pub fn course_permitted(course: Course) -> bool
+    ensures { result ≡ permitted_along course }
 {
     let limit = numbers::limits::foot_limit();
-    legs::unchecked::points_permitted(limit, c.start)
-        & legs::unchecked::feet_permitted(limit, c.last)
-        & legs::unchecked::points_permitted(limit, c.target)
+    legs::unchecked::points_permitted(limit, course.start)
+        & legs::unchecked::feet_permitted(limit, course.last)
+        & legs::unchecked::points_permitted(limit, course.target)
 }

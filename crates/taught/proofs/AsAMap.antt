@@ -13,7 +13,7 @@ use Rattle.numbers.proofs.OneAnswer.{alike_where_taken}
 use Rattle.numbers.proofs.Flags.{by_test, chosen}
 use Rattle.legs.specs.Legs.{finite_feet, permitted_feet}
 use Rattle.legs.specs.Answers.{given_feet}
-use Rattle.legs.specs.declared.Feet.{Feet}
+use Rattle.legs.specs.Legs.{Feet}
 use Rattle.packed.specs.Packed.{feet_at}
 use Rattle.taught.specs.Answers.{done}
 use Rattle.taught.specs.Map.{Slot, none, kept, there, Map, empty, full, Call, fresh, put, get, drop_id, list_ids}

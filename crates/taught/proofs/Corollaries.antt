@@ -15,15 +15,20 @@ use Rattle.numbers.proofs.Flags.{by_test, chosen}
 use Rattle.numbers.proofs.OnePass.{and_left, and_right}
 use Rattle.legs.specs.Legs.{finite_feet, permitted_feet}
 use Rattle.legs.specs.Answers.{given_feet}
-use Rattle.legs.specs.declared.Feet.{Feet}
+use Rattle.legs.specs.Legs.{Feet}
 use Rattle.taught.specs.Answers.{done}
 use Rattle.taught.specs.Map.{Slot, none, kept, there, Map, empty, with, list_of, full, Call, fresh, put, get, drop_id, list_ids}
 use Rattle.taught.specs.Map.{put_number, find_number, put_refused, find_refused, given_slot, answer_of, map_after, answers, leaves}
-use Rattle.taught.specs.Room.{Place, look_up, map_of, places_of, Taught, pose_good, told_of, room_after, ids_from, listed_of, Made, AllMade}
+use Rattle.taught.specs.Room.{Place, look_up, map_of, places_of, Taught, pose_good, told_of, room_after, ids_from, all_listed}
+use Rattle.taught.specs.Room.{listed_of, Made, AllMade}
+use Rattle.std.specs.Prelude.{Result, Ok, Err, IsOkAnd}
+use Rattle.numbers.specs.declared.refusal.Refusal.{Refusal}
+use Rattle.numbers.specs.declared.refusal.Refusal.TheVariants.{NoRoom}
+use Rattle.taught.specs.declared.Listed.{Listed}
 use Rattle.taught.proofs.Written.{written, Sound, ids_of, insert}
 use Rattle.taught.proofs.Sorted.{Rising, rising, few, absent, sound_more, sound_insert, look_insert}
 use Rattle.taught.proofs.Sorted.{list_of_places, length_ids, long_insert}
-use Rattle.taught.proofs.Reading.{taught_written, used_of_written, ids_of_written}
+use Rattle.taught.proofs.Reading.{used_of_written, ids_of_written}
 use Rattle.taught.proofs.Exact.{again, sound, taught_test}
 use Rattle.taught.proofs.AsAMap.{as_a_map, put_done, find_done, places_after, stays_sound, same_map, full_places}
 
@@ -261,33 +266,38 @@ given_there : (k : ℕ) (m : Map) → (answer_of (get k) m).number ≡ 0 → the
 given_there k m e = (find_done k (there (m k)) (taken (find_refused k m) (given_slot (m k)) e)).1
 
 -- what a taught room lists are the ids of its places
-listed_long : (ps : List Place) → Sound 64 0 ps → (listed_of (written 64 ps)).len ≡ length ps
-listed_long ps s = rw (taught_written ps s) (used_of_written ps s)
+listed_long : (ps : List Place) → Sound 64 0 ps → (all_listed (written 64 ps)).len ≡ length ps
+listed_long ps s = used_of_written ps s
 
 listed_at : (ps : List Place) → Sound 64 0 ps → (i : ℕ) → i < length ps →
-    get_or (listed_of (written 64 ps)).ids i 0 ≡ get_or (ids_of ps) i 0
+    get_or (all_listed (written 64 ps)).ids i 0 ≡ get_or (ids_of ps) i 0
 listed_at ps s i l =
-    rw (taught_written ps s)
-    (sym (get_or-take (length ps) (ids_from 64 (written 64 ps)) i 0 l) ∙ ap (λ (ids : List ℕ). get_or ids i 0) (ids_of_written ps s))
+    sym (get_or-take (length ps) (ids_from 64 (written 64 ps)) i 0 l) ∙ ap (λ (ids : List ℕ). get_or ids i 0) (ids_of_written ps s)
 
 -- "the ids rising"
-rises_written : (ps : List Place) → Sound 64 0 ps → (i j : ℕ) → i < j → j < (listed_of (written 64 ps)).len
-    → get_or (listed_of (written 64 ps)).ids i 0 < get_or (listed_of (written 64 ps)).ids j 0
+rises_written : (ps : List Place) → Sound 64 0 ps → (i j : ℕ) → i < j → j < (all_listed (written 64 ps)).len
+    → get_or (all_listed (written 64 ps)).ids i 0 < get_or (all_listed (written 64 ps)).ids j 0
 rises_written ps s i j before l =
     let last : j < length ps = rw (listed_long ps s) at l in
     rw (listed_at ps s i (omega (arith, before, last)), listed_at ps s j last) (ids_rise 0 ps (rising 64 0 ps s) i j before last)
 
-pub list_rises : (room : List ℕ) → Taught room → (i j : ℕ) → i < j → j < (listed_of room).len
-    → get_or (listed_of room).ids i 0 < get_or (listed_of room).ids j 0
+-- a taught room has a list
+listed : (room : List ℕ) → Taught room → listed_of room ≡ Ok (all_listed room)
+listed room t = ap (λ (b : Bool). choose b (Ok (all_listed room)) (Err NoRoom)) (taught_test room t)
+
+abbrev pub Rises : Listed → Type 0
+Rises l = (i j : ℕ) → i < j → j < l.len → get_or l.ids i 0 < get_or l.ids j 0
+
+pub list_rises : (room : List ℕ) → Taught room → IsOkAnd (listed_of room) Rises
 list_rises room t =
     let good = taught_test room t in
-    let Rises : List ℕ → Type 0 =
-    λ r. (i j : ℕ) → i < j → j < (listed_of r).len → get_or (listed_of r).ids i 0 < get_or (listed_of r).ids j 0 in
-    subst Rises (sym (again room t.bytes good)) (rises_written (places_of room) (sound room t.bytes good))
+    subst (λ (r : Result Listed Refusal). IsOkAnd r Rises) (sym (listed room t))
+    (subst (λ (r : List ℕ). Rises (all_listed r)) (sym (again room t.bytes good))
+    (rises_written (places_of room) (sound room t.bytes good)))
 
 -- an id is listed exactly where get answers a pose
 exactly_written : (k : ℕ) (ps : List Place) → Sound 64 0 ps
-    → OneOf k (listed_of (written 64 ps)).len (listed_of (written 64 ps)).ids ↔ (there (look_up ps k) ≡ true)
+    → OneOf k (all_listed (written 64 ps)).len (all_listed (written 64 ps)).ids ↔ (there (look_up ps k) ≡ true)
 exactly_written k ps s = (
   λ h.
       let l : h.0 < length ps = rw (listed_long ps s) at h.1 in
@@ -298,14 +308,16 @@ exactly_written k ps s = (
 )
 
 pub list_exactly : (k : ℕ) (room : List ℕ) → Taught room
-    → OneOf k (listed_of room).len (listed_of room).ids ↔ ((told_of (get k) room).number ≡ 0)
+    → IsOkAnd (listed_of room) (λ l. OneOf k l.len l.ids ↔ ((told_of (get k) room).number ≡ 0))
 list_exactly k room t =
     let good = taught_test room t in
     let s = sound room t.bytes good in
     let told : told_of (get k) room ≡ answer_of (get k) (map_of room) = one_told (get k) tt room t in
-    let listed : OneOf k (listed_of room).len (listed_of room).ids ↔ (there (map_of room k) ≡ true) =
-    subst (λ (r : List ℕ). OneOf k (listed_of r).len (listed_of r).ids ↔ (there (map_of room k) ≡ true)) (sym (again room t.bytes good))
-    (exactly_written k (places_of room) s) in (
-      λ h. ap (λ (x : Told). x.number) told ∙ there_given k (places_of room) s (listed.0 h),
-      λ e. listed.1 (given_there k (map_of room) (ap (λ (x : Told). x.number) (sym told) ∙ e)),
+    let one : OneOf k (all_listed room).len (all_listed room).ids ↔ (there (map_of room k) ≡ true) =
+    subst (λ (r : List ℕ). OneOf k (all_listed r).len (all_listed r).ids ↔ (there (map_of room k) ≡ true)) (sym (again room t.bytes good))
+    (exactly_written k (places_of room) s) in
+    subst (λ (r : Result Listed Refusal). IsOkAnd r (λ l. OneOf k l.len l.ids ↔ ((told_of (get k) room).number ≡ 0)))
+    (sym (listed room t)) (
+      λ h. ap (λ (x : Told). x.number) told ∙ there_given k (places_of room) s (one.0 h),
+      λ e. one.1 (given_there k (map_of room) (ap (λ (x : Told). x.number) (sym told) ∙ e)),
     )

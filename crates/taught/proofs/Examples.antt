@@ -8,7 +8,7 @@ use Rattle.numbers.specs.Limits.{foot_limit, over, minus}
 use Rattle.legs.specs.Legs.{Leg, left_front, right_front, left_middle, right_middle, left_rear, right_rear, feet, finite_point}
 use Rattle.legs.specs.Legs.{permitted_point}
 use Rattle.legs.specs.Answers.{given_feet}
-use Rattle.legs.specs.declared.Feet.{Feet}
+use Rattle.legs.specs.Legs.{Feet}
 use Rattle.packed.specs.Packed.{pair_at, word_at, float_at, point_at, feet_at}
 use Rattle.taught.specs.Answers.{done, given_ids}
 use Rattle.taught.specs.Map.{Call, fresh, put, get, drop_id, list_ids, answers, leaves}

@@ -1,21 +1,9 @@
 -- What is told of an answer on taught poses can be read back, so telling loses nothing and no second answer fits a contract stated by it.
-use Rattle.std.specs.Prelude.{◌≡◌, ℕ, List, [], ◌∷◌}
+use Rattle.std.specs.Prelude.{◌≡◌, Result}
 use mathlib.Core.Path.{refl}
-use Rattle.numbers.specs.Told.{Told}
-use Rattle.numbers.proofs.OneAnswer.{undone}
-use Rattle.taught.specs.Answers.{told}
-use Rattle.taught.specs.declared.Kept.{Kept}
-use Rattle.taught.specs.declared.Kept.TheVariants.{Done, Refused}
+use Rattle.numbers.specs.declared.refusal.Refusal.{Refusal}
+use Rattle.numbers.proofs.OneAnswer.{told_by_loses_nothing}
+use Rattle.taught.specs.Answers.{done, told}
 
--- done has a mark, and a refusal has none
-kept_of : List ℕ → Told → Kept
-kept_of [] t = Refused t.number
-kept_of (k ∷ ks) t = Done
-
-kept_back : (a : Kept) → kept_of (told a).marks (told a) ≡ a
-unfolding kept_of
-kept_back Done = refl
-kept_back (Refused n) = refl
-
-pub told_loses_nothing : (a b : Kept) → told a ≡ told b → a ≡ b
-told_loses_nothing = undone told (λ t. kept_of t.marks t) kept_back
+pub told_loses_nothing : (a b : Result (Unit {0}) Refusal) → told a ≡ told b → a ≡ b
+told_loses_nothing = told_by_loses_nothing (λ u. done) (λ a b e. refl) (λ a. refl)

@@ -11,7 +11,7 @@ use Rattle.numbers.proofs.Flags.{and_both}
 use Rattle.numbers.proofs.OnePass.{and_left, and_right}
 use Rattle.legs.specs.Legs.{lifted, finite_feet, permitted_feet}
 use Rattle.legs.specs.Legs.{left_front, right_front, left_middle, right_middle, left_rear, right_rear}
-use Rattle.legs.specs.declared.Feet.{Feet}
+use Rattle.legs.specs.Legs.{Feet}
 use Rattle.packed.specs.Packed.{pair_at, feet_at, pair_bytes, feet_bytes}
 use Rattle.packed.proofs.Back.{pair_back, feet_back_behind, feet_behind, marks_behind, pair_bytes_again, feet_again, feet_held}
 use Rattle.packed.proofs.Back.{bytes_joined, bytes_of_pair, bytes_of_feet, mark_low}

@@ -10,7 +10,7 @@ use lib.Seq.{drop_at, take_at, drop-append-add, take-append-add}
 use borrow.Author.Tests.{ltb-true, ltb-false, lt-ltb, le-ltb, eqb-true, eq-eqb, ne_eqb}
 use Rattle.numbers.specs.Told.{choose}
 use Rattle.numbers.proofs.Flags.{by_test, and_both, both_ways}
-use Rattle.legs.specs.declared.Feet.{Feet}
+use Rattle.legs.specs.Legs.{Feet}
 use Rattle.packed.specs.Packed.{pair_at, feet_at}
 use Rattle.packed.proofs.Back.{feet_behind}
 use Rattle.taught.specs.Map.{Slot, none, kept, there}

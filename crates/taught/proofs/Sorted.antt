@@ -9,7 +9,7 @@ use mathlib.Core.Logic.{⊎_elim}
 use borrow.Author.Tests.{ltb-true, ltb-false, eqb-true, eqb-false, eq-eqb, ne_eqb}
 use Rattle.numbers.specs.Told.{choose}
 use Rattle.numbers.proofs.Flags.{by_test, chosen, lt_or_le}
-use Rattle.legs.specs.declared.Feet.{Feet}
+use Rattle.legs.specs.Legs.{Feet}
 use Rattle.taught.specs.Map.{Slot, none, kept, there, Map, with, list_from, list_of}
 use Rattle.taught.specs.Room.{Place, look_up}
 use Rattle.taught.proofs.Written.{Good, Sound, ids_of, insert, remove}

@@ -9,7 +9,7 @@ use lib.Seq.{slice}
 use borrow.Author.Tests.{ltb-true, ne_eqb}
 use Rattle.numbers.specs.Told.{choose}
 use Rattle.numbers.proofs.Flags.{by_test}
-use Rattle.legs.specs.declared.Feet.{Feet}
+use Rattle.legs.specs.Legs.{Feet}
 use Rattle.taught.specs.Map.{there}
 use Rattle.taught.specs.Room.{Place, place_bytes, zeros, look_up, replaced, inserted, removed}
 use Rattle.taught.proofs.Written.{written, Sound, position, insert, remove}

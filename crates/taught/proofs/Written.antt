@@ -1,7 +1,7 @@
 -- Between bytes and map: a store as a list of places, their ids rising; the bytes that it is written in; a place put in, or taken out.
 use Rattle.std.specs.Prelude.{◌≡◌, ℕ, zero, suc, ◌*◌, ◌<◌, true, eqb, ltb, List, [], ◌∷◌, ◌++◌}
 use Rattle.numbers.specs.Told.{choose}
-use Rattle.legs.specs.declared.Feet.{Feet}
+use Rattle.legs.specs.Legs.{Feet}
 use Rattle.taught.specs.Room.{Place, place_bytes, zeros, pose_good, HeldFeet}
 
 -- n places: the used ones first, then zeros

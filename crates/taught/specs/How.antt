@@ -1,7 +1,10 @@
 -- How ours computes: what is looked at in one pass, and how bytes move.
-use Rattle.std.specs.Prelude.{ℕ, zero, suc, ◌+◌, ◌-◌, ◌*◌, ◌%◌, Bool, true, false, ◌&&◌, List, ◌++◌, take, drop, nat_le}
+use Rattle.std.specs.Prelude.{ℕ, zero, suc, ◌+◌, ◌-◌, ◌*◌, ◌%◌, Bool, true, ◌&&◌, List, ◌++◌, take, drop, nat_le}
+use Rattle.std.specs.Prelude.{Result, Ok, Err}
 use Rattle.std.proofs.Math.Seq.{slice}
 use Rattle.numbers.specs.Told.{choose}
+use Rattle.numbers.specs.declared.refusal.Refusal.{Refusal}
+use Rattle.numbers.specs.declared.refusal.Refusal.TheVariants.{NoRoom}
 use Rattle.packed.specs.Packed.{word_at}
 use Rattle.taught.specs.declared.look.Seen.{Seen}
 use Rattle.taught.specs.Room.{used, taught, place_for, has, zeros}
@@ -16,16 +19,12 @@ unfolding word_at
 words_low zero l at = true
 words_low (suc n) l at = words_low n l at && low (word_at l (at + 4 * n))
 
--- what the calls need of a room and an id; where the room is refused, nothing more
-abbrev pub nothing : Seen
-nothing = record { good = false; used = 0; place = 0; there = false }
-
+-- what the calls need of a room and an id, or 17
 abbrev pub all_seen : ℕ → List ℕ → Seen
-all_seen id room = record { good = true; used = used room; place = place_for id room; there = has id room }
+all_seen id room = record { used = used room; place = place_for id room; there = has id room }
 
-abbrev pub seen_of : ℕ → List ℕ → Seen
-seen_of id room =
-    choose (taught room) (all_seen id room) nothing
+abbrev pub seen_of : ℕ → List ℕ → Result Seen Refusal
+seen_of id room = choose (taught room) (Ok (all_seen id room)) (Err NoRoom)
 
 -- the bytes from one place to another go 80 up; those behind go 80 down, onto the places from one to another; places become 0
 unfoldable pub up : List ℕ → ℕ → ℕ → List ℕ

@@ -6,7 +6,7 @@ use Rattle.numbers.specs.Door.{unless, when, first_of}
 use Rattle.numbers.specs.Limits.{foot_limit}
 use Rattle.legs.specs.Legs.{finite_feet, permitted_feet}
 use Rattle.legs.specs.Answers.{given_feet}
-use Rattle.legs.specs.declared.Feet.{Feet}
+use Rattle.legs.specs.Legs.{Feet}
 use Rattle.taught.specs.Answers.{done, given_ids}
 
 -- what stands under an id: no pose, or one

@@ -3,16 +3,18 @@
 use Rattle.std.specs.Prelude.{◌≡◌, ℕ, zero, suc, ◌+◌, ◌-◌, ◌*◌, ◌<◌, ◌≤◌, Bool, true, not, ◌&&◌, T, List, [], ◌∷◌, ◌++◌, length, take, drop}
 use Rattle.std.specs.Prelude.{replicate, ◌==◌, nat_le, nat_lt, slice_index}
 use Rattle.std.proofs.Math.Seq.{slice}
-use Rattle.std.specs.Prelude.{Float}
+use Rattle.std.specs.Prelude.{Float, Result, Ok, Err}
 use Rattle.std.specs.Float.{binary32}
 use Rattle.std.specs.Float.Ieee.{fits}
-use Rattle.numbers.specs.Told.{Told, refused, choose, answer}
+use Rattle.numbers.specs.Told.{Told, choose, answer}
 use Rattle.numbers.specs.Door.{unless, either}
 use Rattle.numbers.specs.Limits.{foot_limit}
 use Rattle.legs.specs.Legs.{Leg, foot, finite_feet, permitted_feet}
 use Rattle.legs.specs.Answers.{given_feet}
-use Rattle.legs.specs.declared.Feet.{Feet}
+use Rattle.legs.specs.Legs.{Feet}
 use Rattle.packed.specs.Packed.{pair_at, feet_at, pair_bytes, feet_bytes}
+use Rattle.numbers.specs.declared.refusal.Refusal.{Refusal}
+use Rattle.numbers.specs.declared.refusal.Refusal.TheVariants.{NoRoom}
 use Rattle.taught.specs.declared.Listed.{Listed}
 use Rattle.taught.specs.Answers.{done, told_listed}
 use Rattle.taught.specs.Map.{none, kept, Map, Call, fresh, put, get, drop_id, list_ids, put_number, find_number}
@@ -164,13 +166,10 @@ ids_from zero l = []
 ids_from (suc n) l = id_of l ∷ ids_from n (behind l)
 
 abbrev pub all_listed : List ℕ → Listed
-all_listed room = record { refused = 0; len = used room; ids = ids_from most room }
+all_listed room = record { len = used room; ids = ids_from most room }
 
-abbrev pub none_listed : Listed
-none_listed = record { refused = 17; len = 0; ids = zeros most }
-
-abbrev pub listed_of : List ℕ → Listed
-listed_of room = choose (taught room) (all_listed room) none_listed
+abbrev pub listed_of : List ℕ → Result Listed Refusal
+listed_of room = choose (taught room) (Ok (all_listed room)) (Err NoRoom)
 
 -- ---- the five calls
 abbrev pub told_of : Call → List ℕ → Told

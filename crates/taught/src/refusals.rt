@@ -1,50 +1,28 @@
-// Why a call is refused: 17 first, then what stands in the pose, then the id. 0 is no refusal.
-ghost use Rattle.std.specs.Prelude.{◌≡◌, not, ◌&&◌, ◌==◌, nat_le};
-ghost use Rattle.numbers.specs.Door.{either, unless, when};
+// Why a call on a room that is good is refused: what stands in the pose first, then the id.
+ghost use Rattle.std.specs.Prelude.{◌≡◌, not, ◌&&◌, nat_le};
+ghost use Rattle.numbers.specs.Refusals.{number_or_0};
 ghost use Rattle.taught.specs.Map.{put_number, find_number};
 ghost use Rattle.taught.specs.Room.{most};
 
 use crate::look::Seen;
 use legs::Feet;
-use numbers::door;
+use numbers::{Refusal, door};
 
-// 15 for id 0, else what is asked after it.
-fn id_refused(id: u16, next: u32) -> u32
-    ensures { result ≡ either (when (id == 0) 15) next }
+/// Why a put is refused.
+pub fn admit_put(seen: Seen, id: u16, pose: Feet) -> Result<(), Refusal>
+    ensures { number_or_0 result ≡ put_number id pose (not seen.there && nat_le most seen.used) }
 {
-    if id == 0 { 15 } else { next }
+    if !legs::unchecked::feet_in_limits(pose) {
+        return Err(door::outside(legs::unchecked::feet_finite(pose)));
+    }
+    door::ensure(id != 0, Refusal::IdZero)?;
+    door::ensure(seen.there | (seen.used < 64), Refusal::StoreFull)
 }
 
-// 11 for a new id in a full store.
-fn full_refused(seen: Seen) -> u32
-    ensures { result ≡ when (not seen.there && nat_le most seen.used) 11 }
+/// Why nothing is found under an id.
+pub fn admit_find(seen: Seen, id: u16) -> Result<(), Refusal>
+    ensures { number_or_0 result ≡ find_number id seen.there }
 {
-    if !seen.there & (64 <= seen.used) {
-        11
-    } else {
-        0
-    }
-}
-
-// Why a put is refused.
-pub fn put_refused(seen: Seen, id: u16, pose: Feet) -> u32
-    ensures { result ≡ either (unless seen.good 17) (put_number id pose (not seen.there && nat_le most seen.used)) }
-{
-    if !seen.good {
-        return 17;
-    }
-    if !legs::unchecked::feet_permitted(numbers::limits::foot_limit(), pose) {
-        return door::outside(legs::unchecked::feet_finite(pose));
-    }
-    id_refused(id, full_refused(seen))
-}
-
-// Why nothing is found under an id.
-pub fn find_refused(seen: Seen, id: u16) -> u32
-    ensures { result ≡ either (unless seen.good 17) (find_number id seen.there) }
-{
-    if !seen.good {
-        return 17;
-    }
-    id_refused(id, door::unless(seen.there, 12))
+    door::ensure(id != 0, Refusal::IdZero)?;
+    door::ensure(seen.there, Refusal::NoSuchId)
 }

@@ -1,40 +1,15 @@
 // What is answered: that a call is done, or the ids.
-use fields::{Words, said as words};
-use taught::{Kept, Listed};
+use fields::Answer;
+use hopper::taught_poses::Listed;
 
-// `ok`, or the refusal.
-pub fn kept(a: Kept) -> Words {
-    match a {
-        Kept::Done => words::ok(),
-        Kept::Refused(n) => words::refused(n),
-    }
-}
+/// Nothing stands behind `ok`.
+pub fn done(_to: &mut Answer, _done: ()) {}
 
-// An id more, if it counts.
-fn with_id(o: Words, id: u16, counts: bool) -> Words {
-    if counts { words::short(o, id) } else { o }
-}
-
-// How many ids, in decimal, and that many.
-fn ids_of(ids: [u16; 64], n: usize) -> Words {
-    let mut o = words::decimal(words::ok(), (n % 65) as u32);
-    let mut k: usize = 0;
-    while k < 64 {
-        let next = with_id(o, ids[k], k < n);
-        o = next;
-        k += 1;
-    }
-    o
-}
-
-// The ids, or the refusal.
-pub fn listed(l: Listed) -> Words {
-    let number = l.refused;
-    let n = l.len;
-    let ids = l.ids;
-    if number == 0 {
-        ids_of(ids, n)
-    } else {
-        words::refused(number)
+/// How many ids, in decimal, and that many.
+pub fn listed(to: &mut Answer, listed: Listed) {
+    let ids = &listed.ids[..listed.len.min(64)];
+    to.decimal(ids.len() as u32);
+    for id in ids {
+        to.short(*id);
     }
 }

@@ -16,7 +16,7 @@ use Rattle.legs.specs.Legs.{Leg, left_front, points, foot}
 use Rattle.legs.specs.Legs.{finite_point, permitted_point, finite_feet, permitted_feet}
 use Rattle.legs.proofs.Laws.{each_of_every, every_of_each}
 use Rattle.legs.specs.declared.Point.{Point}
-use Rattle.legs.specs.declared.Feet.{Feet}
+use Rattle.legs.specs.Legs.{Feet}
 use Rattle.moves.proofs.Refusals.{passed, each_finite, each_permitted, point_permitted}
 use Rattle.moves.specs.Distance.{Each}
 use Rattle.walks.specs.Reach.{AtMost, Reach, ReachFeet}

@@ -8,7 +8,7 @@ use native.Mathlib.Omega.{arith}
 use lib.Ieee.{Float}
 use Rattle.legs.specs.Legs.{Leg, row, point}
 use Rattle.legs.specs.declared.Point.{Point}
-use Rattle.legs.specs.declared.Points.{Points}
+use Rattle.legs.specs.Legs.{Points}
 use Rattle.moves.specs.Distance.{Each, same, distance}
 use Rattle.moves.specs.Moving.{nearer}
 use Rattle.moves.proofs.Steps.{stands, moves}

@@ -12,7 +12,7 @@ use Rattle.units.specs.Units.{hi, lo, mag}
 use Rattle.roots.specs.Root.{square_root}
 use Rattle.legs.specs.declared.Point.{Point}
 use Rattle.moves.specs.Distance.{same, square_sum, distance}
-use Rattle.moves.specs.Moving.{component, along, nearer, step_at, move_towards, point_of}
+use Rattle.moves.specs.Moving.{component, along, nearer, step_at, move_towards, place_of}
 use Rattle.walks.specs.Walk.{point_after, Walk}
 use Rattle.walks.specs.Swing.{NotAbove}
 
@@ -30,7 +30,7 @@ abbrev quarter : Point
 quarter = at (over 1 4) (over 0 1)
 
 pub p6 : Walk (over 5 8) start aslant 1
-unfolding over point_after point_of move_towards step_at nearer along component same distance square_sum square_root
+unfolding over point_after place_of move_towards step_at nearer along component same distance square_sum square_root
     add sub mul div le eq hi lo mag
 p6 = record { arrives = tt; least = not_yet; bound = lit≤ tt }
   where
@@ -42,7 +42,7 @@ p6 = record { arrives = tt; least = not_yet; bound = lit≤ tt }
         none i h = omega arith
 
 pub p7 : Walk (over 1 8) start quarter 2
-unfolding over point_after point_of move_towards step_at nearer along component same distance square_sum square_root
+unfolding over point_after place_of move_towards step_at nearer along component same distance square_sum square_root
     add sub mul div le eq hi lo mag
 p7 = record { arrives = tt; least = not_yet; bound = lit≤ tt }
   where
@@ -65,7 +65,7 @@ abbrev ahead : Point
 ahead = at (bits 0x3f00_0001) (bits 0x3f40_0000)
 
 pub passes_its_target : point_after (bits 0x3f66_c15a) behind ahead 1 ≡ at (bits 0x3f00_0002) (bits 0x3f3f_ffff)
-unfolding over of_bits point_after point_of move_towards step_at nearer along component same distance square_sum square_root
+unfolding over of_bits point_after place_of move_towards step_at nearer along component same distance square_sum square_root
     add sub mul div le eq
 passes_its_target = refl
 
@@ -85,7 +85,7 @@ abbrev level_target : Point
 level_target = at (bits 0x8000_0000) (over 1 4)
 
 pub stays_level : point_after (over 1 8) (at (bits 0x8000_0000) (over 0 1)) level_target 1 ≡ at (bits 0) (over 1 8)
-unfolding over of_bits point_after point_of move_towards step_at nearer along component same distance square_sum square_root
+unfolding over of_bits point_after place_of move_towards step_at nearer along component same distance square_sum square_root
     add sub mul div le eq
 stays_level = refl
 

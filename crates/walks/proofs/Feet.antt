@@ -12,9 +12,9 @@ use lib.Ieee.Bits.{is_true}
 use Rattle.numbers.specs.Told.{choose}
 use Rattle.legs.specs.Legs.{Leg, left_front, right_front, left_middle, right_middle, left_rear, right_rear, row, point, every}
 use Rattle.legs.specs.declared.Point.{Point}
-use Rattle.legs.specs.declared.Points.{Points}
+use Rattle.legs.specs.Legs.{Points}
 use Rattle.moves.specs.Distance.{same}
-use Rattle.moves.specs.Moving.{move_towards, point_of}
+use Rattle.moves.specs.Moving.{move_towards, point_of, place_of}
 use Rattle.moves.proofs.Steps.{stands}
 use Rattle.moves.proofs.FootByFoot.{each_foot}
 use Rattle.walks.specs.Walk.{point_after, points_after, Walk, WalkFeet, larger, largest, all_arrived}
@@ -53,7 +53,7 @@ same_self l t h =
 
 -- ---- what has arrived stays
 pub stays : (m : Float) (s t : Point) (k : ℕ) → T (same (point_after m s t k) t) → T (same (point_after m s t (suc k)) t)
-unfolding point_after point_of
+unfolding point_after place_of
 stays m s t k h =
     let e : point_of (move_towards (point_after m s t k) t m) ≡ t =
     ap point_of (stands (point_after m s t k) t m (is_true (same (point_after m s t k) t) h)) in

@@ -15,6 +15,7 @@ pub mod Steps
 pub mod Given
 pub mod Loop
 mod OnePass
+pub mod Counted
 pub mod Door
 pub mod Feet
 pub mod Marks

@@ -11,8 +11,8 @@ use Rattle.units.specs.Units.{mag}
 use Rattle.units.proofs.Door.{holds}
 use Rattle.legs.specs.declared.Point.{Point}
 use Rattle.moves.specs.Distance.{same}
-use Rattle.moves.specs.Moving.{move_towards, point_of}
-use Rattle.moves.specs.declared.MoveStep.TheVariants.{Moved, Arrived}
+use Rattle.moves.specs.Moving.{move_towards, point_of, place_of}
+use Rattle.moves.specs.declared.Step.TheVariants.{Moved, Arrived}
 use Rattle.moves.proofs.Steps.{was_elsewhere, was_there}
 use Rattle.walks.specs.Walk.{point_after, spread, Walk}
 use Rattle.walks.proofs.Aim.{Aim, OnWay}
@@ -47,7 +47,7 @@ module _ (m : Float) (s t : Point) where
       nothing a b = omega arith
 
   next_point : (l p : Point) (k : ℕ) → point_after m s t k ≡ l → move_towards l t m ≡ Moved p → point_after m s t (k + 1) ≡ p
-  unfolding point_after point_of
+  unfolding point_after place_of
   next_point l p k e h = ap (point_after m s t) (add-one k) ∙ ap (λ (q : Point). point_of (move_towards q t m)) e ∙ ap point_of h
 
   next_least : (l p : Point) (k : ℕ) → point_after m s t k ≡ l → move_towards l t m ≡ Moved p

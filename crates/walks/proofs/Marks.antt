@@ -4,8 +4,8 @@ use Rattle.std.specs.Prelude.{◌≡◌, ℕ, zero, suc}
 use mathlib.Core.Path.{refl, ap, ◌∙◌}
 use lib.Ieee.{Float}
 use Rattle.legs.specs.Legs.{Leg, point, points, foot, lifted}
-use Rattle.legs.specs.declared.Points.{Points}
-use Rattle.legs.specs.declared.Feet.{Feet}
+use Rattle.legs.specs.Legs.{Points}
+use Rattle.legs.specs.Legs.{Feet}
 use Rattle.moves.specs.Moving.{move_points_towards, points_of}
 use Rattle.moves.proofs.Marks.{marks_of_move, points_of_move}
 use Rattle.walks.specs.Walk.{point_after, points_after, feet_after}

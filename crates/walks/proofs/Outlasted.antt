@@ -1,16 +1,13 @@
 -- A foot is outlasted: where its distance and one max move more come to at most 27/32 of another foot's distance, it arrives no later
 -- than that one. So the largest count is that of the feet that are left.
-use Rattle.std.specs.Prelude.{◌≡◌, ℕ, zero, suc, ◌+◌, ◌*◌, ◌/◌, ◌^◌, ◌<◌, ◌≤◌, Bool, true, false, T, ◌⊎◌}
+use Rattle.std.specs.Prelude.{◌≡◌, ℕ, zero, suc, ◌+◌, ◌*◌, ◌/◌, ◌^◌, ◌<◌, ◌≤◌, Bool, true, false, T}
 use mathlib.Core.Path.{refl, sym, ap, ◌∙◌, subst}
-use mathlib.Core.Logic.{inl, inr, ⊎_elim}
-use mathlib.Core.Bool.{true≢false}
 use Prim.Native.Nat.{zero-le}
-use native.Mathlib.Nat.{le_refl, le_trans, le_of_lt, le_of_eq, lt_of_le_of_lt, mul-le-mul, mul-le-mul_left, mul-lt-mul_of_pos_right}
+use native.Mathlib.Nat.{le_refl, le_trans, le_of_lt, lt_of_le_of_lt, mul-le-mul, mul-lt-mul_of_pos_right}
 use native.Mathlib.Nat.{mul-pos}
 use native.Mathlib.Nat.{le_of_mul-le-mul_right, mul-le-mul_right, add-le-add, zero-mul}
 use native.Mathlib.Omega.{arith}
 use lib.Dec.{lit<, lit≤}
-use lib.Pow.{pow_pos}
 use lib.Ieee.{Float, binary32, of_bits, add, mul, le}
 use lib.Ieee.Exact.{HasValue}
 use lib.Ieee.Scale.{overflow}
@@ -21,7 +18,6 @@ use Rattle.units.proofs.Values.{plus_part}
 use Rattle.units.proofs.Order.{le_part, not_le_values}
 use Rattle.units.proofs.Grid.{cell_le, grid_zero}
 use Rattle.units.proofs.Errors.{unity_pos, summed, multiplied}
-use Rattle.units.proofs.Whole.{le_or_lt}
 use Rattle.legs.specs.declared.Point.{Point}
 use Rattle.moves.specs.Distance.{same, distance}
 use Rattle.walks.specs.Walk.{point_after, Walk}
@@ -31,7 +27,7 @@ use Rattle.walks.proofs.Coordinate.{δ}
 use Rattle.walks.proofs.Steps.{test_false}
 use Rattle.walks.proofs.Share.{part}
 use Rattle.walks.proofs.Feet.{still_there}
-use Rattle.walks.proofs.Reached.{InReach, beyond, spans_way, distance_within, distance_value, distance_small}
+use Rattle.walks.proofs.Reached.{spans_way, distance_within, distance_value, distance_small}
 use Rattle.walks.proofs.Reached.{near_arrives, arrives_within, was_within, count_within}
 
 share_value : HasValue share false part unity

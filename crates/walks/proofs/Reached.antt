@@ -1,5 +1,5 @@
 -- How many steps take a point to its target, from the straight distance: 15/16 of the max move is made good by every step.
-use Rattle.std.specs.Prelude.{◌≡◌, ℕ, zero, suc, ◌+◌, ◌-◌, ◌*◌, ◌/◌, ◌^◌, ◌<◌, ◌≤◌, Bool, true, false, not, T, ◌⊎◌}
+use Rattle.std.specs.Prelude.{◌≡◌, ℕ, zero, suc, ◌+◌, ◌-◌, ◌*◌, ◌/◌, ◌^◌, ◌<◌, ◌≤◌, Bool, true, false, not, T}
 use mathlib.Core.Path.{refl, sym, ap, ◌∙◌, subst}
 use mathlib.Core.Logic.{inl, inr}
 use mathlib.Core.Bool.{true≢false}
@@ -11,7 +11,7 @@ use lib.Pow.{pow_pos}
 use lib.Ieee.{Float, binary32, le}
 use lib.Ieee.Bits.{is_true}
 use lib.Ieee.Exact.{HasValue}
-use Rattle.units.specs.Units.{unity, hi, lo, mag, apart, gap}
+use Rattle.units.specs.Units.{unity, hi, lo, mag, apart}
 use Rattle.units.proofs.Errors.{Within, sum_abs, unity_pos, summed, multiplied}
 use Rattle.units.proofs.Values.{mag_is}
 use Rattle.units.proofs.Order.{le_values}
@@ -19,9 +19,9 @@ use Rattle.units.proofs.Door.{holds}
 use Rattle.units.proofs.Whole.{le_or_lt}
 use Rattle.legs.specs.declared.Point.{Point}
 use Rattle.moves.specs.Distance.{same, distance}
-use Rattle.moves.specs.Moving.{along, move_towards, point_of}
+use Rattle.moves.specs.Moving.{along, move_towards, point_of, place_of}
 use Rattle.moves.proofs.Steps.{stands, moves, goes_there, goes_along}
-use Rattle.moves.proofs.Squares.{Near, diff, size, sq, both, all, less_32}
+use Rattle.moves.proofs.Squares.{diff, size, sq, both, all, less_32}
 use Rattle.walks.specs.Walk.{point_after, Walk}
 use Rattle.walks.proofs.Aim.{Aim, OnWay}
 use Rattle.walks.proofs.Arithmetic.{Dist}
@@ -255,7 +255,7 @@ module _ (m : Float) (t : Point) (aim : Aim m t) (N : ℕ) (part : 16 * N ≤ 15
   -- one step, by its two tests: at its target it stays, near it is there, and far it goes along
   by_tests : (k : ℕ) (l : Point) → (le (distance l t) m ≡ false → T (same (point_after m l t (suc k)) t)) → T
       (same (point_after m l t (suc k)) t)
-  unfolding point_after point_of
+  unfolding point_after place_of
   by_tests k l on = by_place (same l t) refl
     where
       by_distance : same l t ≡ false → (b : Bool) → le (distance l t) m ≡ b → T (same (point_after m l t (suc k)) t)
@@ -270,7 +270,7 @@ module _ (m : Float) (t : Point) (aim : Aim m t) (N : ℕ) (part : 16 * N ≤ 15
   near_arrives l e = by_tests 0 l (λ f. absurd (true≢false (sym e ∙ f)))
 
   far_goes_along : (l : Point) → OnWay l t → le (distance l t) m ≡ false → point_of (move_towards l t m) ≡ along (distance l t) m l t
-  unfolding point_of
+  unfolding place_of
   far_goes_along l way e = ap point_of (moves l t m (far_is_elsewhere m l t aim way e)) ∙ goes_along (distance l t) l t m e
 
   pub arrives_within : (n : ℕ) (l : Point) → OnWay l t → InReach l t (n * N) → T (same (point_after m l t (suc n)) t)

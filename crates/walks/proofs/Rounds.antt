@@ -13,7 +13,7 @@ use lib.Ieee.Bits.{is_true}
 use Rattle.units.proofs.Door.{holds}
 use Rattle.legs.specs.Legs.{Leg, point, every}
 use Rattle.legs.specs.declared.Point.{Point}
-use Rattle.legs.specs.declared.Points.{Points}
+use Rattle.legs.specs.Legs.{Points}
 use Rattle.moves.specs.Distance.{same}
 use Rattle.moves.specs.Moving.{move_towards, point_of}
 use Rattle.moves.proofs.FootByFoot.{each_foot}

@@ -1,7 +1,7 @@
 -- Six feet of which only the slow ones are walked: their count is the six feet's.
-use Rattle.std.specs.Prelude.{◌≡◌, ℕ, ◌<◌, ◌≤◌, Bool, true, false, T, ◌⊎◌, List, [], ◌∷◌}
-use mathlib.Core.Path.{refl, sym, ap, ◌∙◌, subst}
-use mathlib.Core.Logic.{inl, inr, ⊎_elim}
+use Rattle.std.specs.Prelude.{◌≡◌, ℕ, ◌≤◌, Bool, true, false, T}
+use mathlib.Core.Path.{refl, sym, ◌∙◌, subst}
+use mathlib.Core.Logic.{⊎_elim}
 use Prim.Native.Nat.{zero-le}
 use native.Mathlib.Nat.{le_trans, le_of_eq, le_antisymm, lt_irrefl}
 use lib.Ieee.{Float, binary32, add, mul, le, lt}
@@ -9,7 +9,7 @@ use Rattle.numbers.specs.Told.{choose}
 use Rattle.numbers.specs.Finite.{greater}
 use Rattle.legs.specs.Legs.{Leg, left_front, right_front, left_middle, right_middle, left_rear, right_rear, row, point}
 use Rattle.legs.specs.declared.Point.{Point}
-use Rattle.legs.specs.declared.Points.{Points}
+use Rattle.legs.specs.Legs.{Points}
 use Rattle.moves.specs.Distance.{same, distance, longest_distance, largest as largest_of}
 use Rattle.walks.specs.Walk.{point_after, Walk, WalkFeet, largest}
 use Rattle.walks.specs.Reach.{Reach, ReachFeet}

@@ -1,9 +1,9 @@
 -- Straight distances on whole numbers, by their squares: three differences a, b, c span no more than P where the sum of their squares is
 -- at most P's. Nothing here is about floats.
-use Rattle.std.specs.Prelude.{◌≡◌, ℕ, ◌+◌, ◌-◌, ◌*◌, ◌<◌, ◌≤◌, ◌⊎◌}
+use Rattle.std.specs.Prelude.{◌≡◌, ℕ, ◌+◌, ◌-◌, ◌*◌, ◌<◌, ◌≤◌}
 use mathlib.Core.Path.{ap, subst}
 use mathlib.Core.Logic.{inl, inr}
-use native.Mathlib.Nat.{le_trans, le_of_eq, mul-le-mul, mul-le-mul_left, mul-le-mul_right, le_of_mul-le-mul_right, mul-pos}
+use native.Mathlib.Nat.{le_trans, le_of_eq, mul-le-mul, mul-le-mul_left, le_of_mul-le-mul_right, mul-pos}
 use native.Mathlib.Omega.{arith}
 use Rattle.units.proofs.Whole.{le_or_lt}
 

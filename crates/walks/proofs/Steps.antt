@@ -17,7 +17,7 @@ use Rattle.units.proofs.Held.{Single}
 use Rattle.legs.specs.declared.Point.{Point}
 use Rattle.moves.specs.Distance.{Each, same, distance}
 use Rattle.moves.specs.Moving.{move_towards, nearer, along, point_of}
-use Rattle.moves.specs.declared.MoveStep.TheVariants.{Moved, Arrived}
+use Rattle.moves.specs.declared.Step.TheVariants.{Moved, Arrived}
 use Rattle.moves.proofs.Steps.{stands, moves, goes_there, goes_along, after_step}
 use Rattle.walks.specs.Walk.{spread}
 use Rattle.walks.proofs.Aim.{Aim, OnWay}

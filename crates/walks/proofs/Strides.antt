@@ -3,19 +3,19 @@
 use Rattle.std.specs.Prelude.{◌≡◌, ℕ, ◌+◌, ◌<◌, ◌≤◌, Bool, true, false, not, T}
 use mathlib.Core.Path.{refl, sym, ap, ◌∙◌, subst}
 use mathlib.Core.Bool.{true≢false, false≢true}
-use lib.Dec.{not_T, T_not}
+use lib.Dec.{not_T}
 use lib.Ieee.{Float, le}
 use lib.Ieee.Bits.{is_true, is_false}
 use Rattle.units.proofs.Door.{holds}
 use Rattle.numbers.specs.Told.{choose}
 use Rattle.legs.specs.Legs.{Leg, point, points, foot, lifted, whole, every, marked}
 use Rattle.legs.specs.declared.Point.{Point}
-use Rattle.legs.specs.declared.Points.{Points}
+use Rattle.legs.specs.Legs.{Points}
 use Rattle.legs.specs.declared.Foot.{Foot}
-use Rattle.legs.specs.declared.Feet.{Feet}
+use Rattle.legs.specs.Legs.{Feet}
 use Rattle.legs.proofs.Laws.{each_of_every, every_of_each, whole_of_feet, lifted_of_marked}
 use Rattle.moves.specs.Distance.{same, distance}
-use Rattle.moves.specs.Moving.{nearer, move_towards, point_of}
+use Rattle.moves.specs.Moving.{nearer, move_towards, point_of, place_of}
 use Rattle.moves.proofs.Steps.{moves, after_step}
 use Rattle.walks.specs.Walk.{WalkFeet}
 use Rattle.walks.specs.How.{put_down, stride, strides}
@@ -35,7 +35,7 @@ module _ (m : Float) (u : Bool) (p t : Point) (aim : Aim m t) (way : OnWay p t) 
 
   -- a stride is a step
   stepped : (stride u p t m).point ≡ point_of (move_towards p t m)
-  unfolding stride point_of
+  unfolding stride place_of
   stepped = by_tests u refl (le (distance p t) m) refl
     where
       by_tests : (b : Bool) → u ≡ b → (n : Bool) → le (distance p t) m ≡ n

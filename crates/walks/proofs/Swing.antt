@@ -10,7 +10,7 @@ use lib.Ieee.{Float, eq}
 use Rattle.units.specs.Units.{hi, lo, gap, apart}
 use Rattle.legs.specs.Legs.{Leg, foot}
 use Rattle.legs.specs.declared.Point.{Point}
-use Rattle.legs.specs.declared.Feet.{Feet}
+use Rattle.legs.specs.Legs.{Feet}
 use Rattle.moves.specs.Distance.{Each}
 use Rattle.walks.specs.Walk.{point_after, feet_after}
 use Rattle.walks.specs.Answers.{walk_refusal, walk_feet_refusal}

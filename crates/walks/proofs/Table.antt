@@ -5,7 +5,7 @@ use lib.Ieee.{Float}
 use Rattle.units.specs.Units.{mag}
 use Rattle.legs.specs.Legs.{Leg, points, foot}
 use Rattle.legs.specs.declared.Point.{Point}
-use Rattle.legs.specs.declared.Feet.{Feet}
+use Rattle.legs.specs.Legs.{Feet}
 use Rattle.moves.specs.Distance.{Each}
 use Rattle.walks.specs.Walk.{spread, Walk, WalkFeet}
 use Rattle.walks.specs.Reach.{Reach}

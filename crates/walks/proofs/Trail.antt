@@ -12,8 +12,8 @@ use Rattle.units.proofs.Order.{eq_of_apart, apart_of_eq, apart_comm}
 use Rattle.units.proofs.Held.{Single}
 use Rattle.legs.specs.declared.Point.{Point}
 use Rattle.moves.specs.Distance.{Each, same}
-use Rattle.moves.specs.Moving.{move_towards, point_of}
-use Rattle.moves.specs.declared.MoveStep.TheVariants.{Moved, Arrived}
+use Rattle.moves.specs.Moving.{move_towards, point_of, place_of}
+use Rattle.moves.specs.declared.Step.TheVariants.{Moved, Arrived}
 use Rattle.moves.proofs.Steps.{stands, moves}
 use Rattle.walks.specs.Walk.{point_after, Walk}
 use Rattle.walks.proofs.Aim.{Aim, OnWay}
@@ -66,7 +66,7 @@ module _ (m : Float) (s t : Point) where
   -- the step after k of them, where the walk has not arrived, and where it has
   pub moves_on : (k : ℕ) → T (not (same (point_after m s t k) t)) →
       move_towards (point_after m s t k) t m ≡ Moved (point_after m s t (suc k))
-  unfolding point_after point_of
+  unfolding point_after place_of
   moves_on k h =
       let e = moves (point_after m s t k) t m (is_false (same (point_after m s t k) t) h) in e ∙ sym (ap (λ a. Moved (point_of a)) e)
 

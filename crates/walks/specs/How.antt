@@ -6,9 +6,9 @@ use Rattle.std.specs.Float.Ieee.{add, mul, le}
 use Rattle.numbers.specs.Told.{choose}
 use Rattle.legs.specs.Legs.{Leg, point, foot, lifted, feet}
 use Rattle.legs.specs.declared.Point.{Point}
-use Rattle.legs.specs.declared.Points.{Points}
+use Rattle.legs.specs.Legs.{Points}
 use Rattle.legs.specs.declared.Foot.{Foot}
-use Rattle.legs.specs.declared.Feet.{Feet}
+use Rattle.legs.specs.Legs.{Feet}
 use Rattle.moves.specs.Distance.{distance, longest_distance}
 use Rattle.moves.specs.Moving.{nearer}
 

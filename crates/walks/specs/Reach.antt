@@ -6,7 +6,7 @@ use Rattle.numbers.specs.Door.{finite}
 use Rattle.units.specs.Units.{unity, hi, mag}
 use Rattle.legs.specs.Legs.{Leg, point}
 use Rattle.legs.specs.declared.Point.{Point}
-use Rattle.legs.specs.declared.Points.{Points}
+use Rattle.legs.specs.Legs.{Points}
 use Rattle.moves.specs.Distance.{Each}
 
 -- finite, and at most k units in magnitude

@@ -6,8 +6,8 @@ use Rattle.numbers.specs.Told.{choose}
 use Rattle.units.specs.Units.{apart, mag}
 use Rattle.legs.specs.Legs.{Leg, row, point, every}
 use Rattle.legs.specs.declared.Point.{Point}
-use Rattle.legs.specs.declared.Points.{Points}
-use Rattle.legs.specs.declared.Feet.{Feet}
+use Rattle.legs.specs.Legs.{Points}
+use Rattle.legs.specs.Legs.{Feet}
 use Rattle.moves.specs.Distance.{same}
 use Rattle.moves.specs.Moving.{move_towards, point_of, move_points_towards, points_of, move_feet_towards, feet_of}
 

@@ -8,38 +8,31 @@ ghost use Rattle.walks.specs.Reach.{Reach, ReachFeet};
 
 use legs::{Feet, Foot, Point, Points};
 
-// Each answer is fed back until none moves; the steps that moved are counted. A step is
-// `moves::unchecked::move_towards`, in its two parts.
+/// The steps that move, of at most `max_move` metres each, until none does. A step is
+/// `moves::unchecked::move_towards`, in its two parts.
 pub fn walk(max_move: f32, start: Point, target: Point) -> u32
     requires { Reach max_move start target }
     ensures { Walk max_move start target result }
 {
     let mut last = start;
     let mut count: u32 = 0;
-    loop {
-        if moves::unchecked::is_same(last, target) {
-            return count;
-        }
+    // Kept: the loop, since the count of steps is the answer, and no number is at hand for a `for` to go to.
+    while !moves::unchecked::is_same(last, target) {
         last = moves::unchecked::onward(last, target, max_move);
         count += 1;
     }
+    count
 }
 
 // Six feet that set out: all are lifted.
 fn setting_out(start: Points) -> Feet
     ensures { result ≡ marked (λ l. true) start }
 {
-    Feet {
-        left_front: legs::unchecked::foot_at(start.left_front, true),
-        left_middle: legs::unchecked::foot_at(start.left_middle, true),
-        left_rear: legs::unchecked::foot_at(start.left_rear, true),
-        right_front: legs::unchecked::foot_at(start.right_front, true),
-        right_middle: legs::unchecked::foot_at(start.right_middle, true),
-        right_rear: legs::unchecked::foot_at(start.right_rear, true),
-    }
+    start.map(|point| legs::unchecked::foot_at(point, true))
 }
 
 // One step of a foot. It is put down at its target, where it stays: no coordinate is looked at again.
+#[tactic(auto, unfolding(crate::specs::How::stride))]
 fn stride(lifted: bool, last: Point, target: Point, max_move: f32) -> Foot
     ensures { result ≡ stride lifted last target max_move }
 {
@@ -53,43 +46,33 @@ fn stride(lifted: bool, last: Point, target: Point, max_move: f32) -> Foot
     legs::unchecked::foot_at(target, false)
 }
 
-// One step of each foot towards its target t, by at most the max move m.
-fn strides(last: Feet, t: Points, m: f32) -> Feet
-    ensures { result ≡ strides last t m }
+// One step of each foot towards its target, by at most the max move.
+#[tactic(auto, unfolding(crate::specs::How::strides))]
+fn strides(last: Feet, target: Points, max_move: f32) -> Feet
+    ensures { result ≡ strides last target max_move }
 {
-    let p = legs::unchecked::points_of(last);
-    Feet {
-        left_front: stride(last.left_front.lifted, p.left_front, t.left_front, m),
-        left_middle: stride(last.left_middle.lifted, p.left_middle, t.left_middle, m),
-        left_rear: stride(last.left_rear.lifted, p.left_rear, t.left_rear, m),
-        right_front: stride(last.right_front.lifted, p.right_front, t.right_front, m),
-        right_middle: stride(last.right_middle.lifted, p.right_middle, t.right_middle, m),
-        right_rear: stride(last.right_rear.lifted, p.right_rear, t.right_rear, m),
-    }
+    last.zip_with(
+        target,
+        |foot, target| stride(foot.lifted, foot.point, target, max_move),
+    )
 }
 
 // Whether every foot is put down.
 fn all_down(feet: Feet) -> bool
     ensures { result ≡ every (λ l. not (lifted feet l)) }
 {
-    !feet.left_front.lifted
-        & !feet.right_front.lifted
-        & !feet.left_middle.lifted
-        & !feet.right_middle.lifted
-        & !feet.left_rear.lifted
-        & !feet.right_rear.lifted
+    feet.map(|foot| !foot.lifted).all()
 }
 
 // Whether every foot is at its target.
 fn all_arrived(last: Points, target: Points) -> bool
     ensures { result ≡ every (λ l. same (point last l) (point target l)) }
 {
-    moves::unchecked::is_same(last.left_front, target.left_front)
-        & moves::unchecked::is_same(last.right_front, target.right_front)
-        & moves::unchecked::is_same(last.left_middle, target.left_middle)
-        & moves::unchecked::is_same(last.right_middle, target.right_middle)
-        & moves::unchecked::is_same(last.left_rear, target.left_rear)
-        & moves::unchecked::is_same(last.right_rear, target.right_rear)
+    let there = last.zip_with(
+        target,
+        |last, target| moves::unchecked::is_same(last, target),
+    );
+    there.all()
 }
 
 // Six feet walk in rounds of a step each, so that the machine can take their six roots at once. The
@@ -100,6 +83,7 @@ fn walk_in_rounds(max_move: f32, start: Points, target: Points) -> u32
 {
     let mut last = setting_out(start);
     let mut rounds: u32 = 0;
+    // Kept: the loop, as in `walk`; its two ends answer two counts.
     loop {
         let next = strides(last, target, max_move);
         if all_down(next) {
@@ -139,17 +123,13 @@ fn slow_ones(max_move: f32, start: Points, target: Points) -> Points
         return start;
     }
     let limit = moves::unchecked::longest_distance(start, target) * 0.84375;
-    Points {
-        left_front: set_out(limit, max_move, start.left_front, target.left_front),
-        left_middle: set_out(limit, max_move, start.left_middle, target.left_middle),
-        left_rear: set_out(limit, max_move, start.left_rear, target.left_rear),
-        right_front: set_out(limit, max_move, start.right_front, target.right_front),
-        right_middle: set_out(limit, max_move, start.right_middle, target.right_middle),
-        right_rear: set_out(limit, max_move, start.right_rear, target.right_rear),
-    }
+    start.zip_with(
+        target,
+        |start, target| set_out(limit, max_move, start, target),
+    )
 }
 
-// The slowest foot's count is the six feet's, so that only the slow ones are walked.
+/// The slowest foot's count is the six feet's, so that only the slow ones are walked.
 pub fn walk_feet(max_move: f32, start: Points, target: Points) -> u32
     requires { ReachFeet max_move start target }
     ensures { WalkFeet max_move start target result }

@@ -1,10 +1,8 @@
 -- The door of a step: refusal 2 where one of the four tests fails; where none does, each number is in its range. Assumes nothing.
-use Prim.Native.Nat.{ℕ}
-use mathlib.Core.Path.{◌≡◌, refl, sym, ap, ap₂, ◌∙◌}
-use mathlib.Core.Bool.{Bool, true, false, not, ◌&&◌}
-use lib.Dec.{eqb}
+use mathlib.Core.Path.{◌≡◌, sym, ap, ap₂}
+use mathlib.Core.Bool.{Bool, true, false, ◌&&◌}
 use lib.IntN.{ℤ, nat_abs}
-use Rattle.numbers.specs.Told.{Told, refused, choose, answer}
+use Rattle.numbers.specs.Told.{refused, answer}
 use Rattle.numbers.specs.Door.{unless}
 use Rattle.numbers.proofs.OnePass.{and_left, and_right}
 use Rattle.wholes.specs.Wholes.{is_coordinate, is_place, is_height, is_progress, whole_step}

@@ -1,12 +1,12 @@
 -- What a driver of the board may rely on: where a step begins and ends, what each coordinate depends on, and that a foot stays between its
 -- ends. Assumes nothing.
-use Prim.Native.Nat.{ℕ, zero, suc, ◌+◌, ◌-◌, ◌*◌, ◌/◌, ◌≤◌, ◌<◌}
+use Prim.Native.Nat.{ℕ, ◌+◌, ◌*◌, ◌/◌, ◌≤◌, ◌<◌}
 use mathlib.Core.Path.{◌≡◌, refl, sym, ap, ap₂, ◌∙◌, subst}
 use mathlib.Core.Bool.{Bool, true, false}
 use mathlib.Core.Logic.{◌⊎◌, inl, inr}
 use native.Mathlib.Nat.{le_of_lt, lt_irrefl, mul-zero, mul-le-mul_left}
 use native.Mathlib.Omega.{arith}
-use lib.Dec.{T, leb, le→leb, eqb, lit<}
+use lib.Dec.{le→leb, eqb, lit<}
 use borrow.Author.Tests.{ne_eqb}
 use lib.IntN.{ℤ, pos, negsuc, ◌+ℤ◌, ◌-ℤ◌, ◌*ℤ◌, +ℤ_idr, *ℤ-zero}
 use lib.Signed.{◌≤ℤ◌, ≤ℤ_refl}

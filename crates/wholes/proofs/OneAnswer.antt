@@ -1,16 +1,16 @@
 -- What is told of a whole-number step can be read back, so telling loses nothing and no second answer fits a contract stated by it.
-use mathlib.Core.Path.{◌≡◌, refl, ap}
+use Rattle.std.specs.Prelude.{Result}
+use mathlib.Core.Path.{◌≡◌, refl, sym, ap, ◌∙◌}
 use mathlib.Core.Bool.{not}
 use mathlib.Core.List.{List, [], ◌∷◌}
 use Prim.Native.Nat.{ℕ, zero, suc}
 use lib.IntN.{ℤ, pos, negsuc, neg_ℤ, nat_abs}
 use lib.Signed.{non_neg}
 use Rattle.numbers.specs.Told.{Told, mark}
-use Rattle.numbers.proofs.OneAnswer.{undone}
-use Rattle.wholes.specs.Answers.{told}
+use Rattle.numbers.specs.declared.refusal.Refusal.{Refusal}
+use Rattle.numbers.proofs.OneAnswer.{told_by_loses_nothing}
+use Rattle.wholes.specs.Answers.{given_point, told}
 use Rattle.wholes.specs.declared.WholePoint.{WholePoint}
-use Rattle.wholes.specs.declared.WholeStep.{WholeStep}
-use Rattle.wholes.specs.declared.WholeStep.TheVariants.{At, Refused}
 use Rattle.wholes.proofs.Steps.{same_point}
 
 -- a number of its two marks
@@ -23,26 +23,26 @@ unfolding number_of
 number_back (pos n) = refl
 number_back (negsuc n) = refl
 
--- a point has marks, and a refusal has none
+-- a point of its six marks
 place : List ℕ → ℕ → ℕ
 place [] k = 0
 place (m ∷ ms) zero = m
 place (m ∷ ms) (suc k) = place ms k
 
-step_of : List ℕ → Told → WholeStep
-step_of [] t = Refused t.number
-step_of (m ∷ ms) t =
-    At
-    (record {
-      x = number_of m (place ms 0);
-      y = number_of (place ms 1) (place ms 2);
-      z = number_of (place ms 3) (place ms 4);
-    })
+point_of : List ℕ → WholePoint
+point_of ms =
+    record {
+      x = number_of (place ms 0) (place ms 1);
+      y = number_of (place ms 2) (place ms 3);
+      z = number_of (place ms 4) (place ms 5);
+    }
 
-step_back : (a : WholeStep) → step_of (told a).marks (told a) ≡ a
-unfolding step_of place
-step_back (At p) = ap At (same_point (number_back p.x) (number_back p.y) (number_back p.z))
-step_back (Refused n) = refl
+point_back : (p : WholePoint) → point_of (given_point p).marks ≡ p
+unfolding point_of place
+point_back p = same_point (number_back p.x) (number_back p.y) (number_back p.z)
 
-pub told_loses_nothing : (a b : WholeStep) → told a ≡ told b → a ≡ b
-told_loses_nothing = undone told (λ t. step_of t.marks t) step_back
+pub given_point_loses_nothing : (p q : WholePoint) → given_point p ≡ given_point q → p ≡ q
+given_point_loses_nothing p q e = sym (point_back p) ∙ ap (λ (t : Told). point_of t.marks) e ∙ point_back q
+
+pub told_loses_nothing : (a b : Result WholePoint Refusal) → told a ≡ told b → a ≡ b
+told_loses_nothing = told_by_loses_nothing given_point given_point_loses_nothing (λ p. refl)

@@ -1,8 +1,8 @@
 -- The table in the code holds the rule at every place: one computed test over all 1,025 entries says that each is the whole number nearest
 -- to 16384 S(k P / 2048), and that there is no tie. Assumes nothing.
-use Prim.Native.Nat.{ℕ, zero, suc, ◌+◌, ◌-◌, ◌*◌, ◌/◌, ◌^◌, ◌≤◌, ◌<◌}
+use Prim.Native.Nat.{ℕ, suc, ◌+◌, ◌-◌, ◌*◌, ◌/◌, ◌≤◌, ◌<◌}
 use mathlib.Core.Path.{◌≡◌, refl, sym, ◌∙◌, subst}
-use mathlib.Core.Bool.{Bool, true, false}
+use mathlib.Core.Bool.{Bool}
 use mathlib.Core.List.{List, [], ◌∷◌}
 use native.Mathlib.Nat.{le_antisymm, le_of_lt, le_of_suc-le-suc, mul-pos, mul-le-mul_left, le_of_mul-le-mul_left, lt_of_mul-lt-mul_left}
 use native.Mathlib.Nat.{le-div_iff_mul-le, div-lt_iff_lt-mul}

@@ -1,8 +1,8 @@
 -- A signed number that code holds is read back from its bits; what is read is the number, where it is within 31 bits. No difference,
 -- product, share or sum of a step passes them. Assumes nothing.
-use Prim.Native.Nat.{ℕ, ◌+◌, ◌-◌, ◌*◌, ◌/◌, ◌≤◌, ◌<◌}
+use Prim.Native.Nat.{ℕ, ◌-◌, ◌*◌, ◌/◌, ◌≤◌, ◌<◌}
 use mathlib.Core.Path.{◌≡◌, refl, sym, ap, ap₂, ◌∙◌, subst}
-use mathlib.Core.Bool.{Bool, true, false, ◌&&◌}
+use mathlib.Core.Bool.{Bool, true, ◌&&◌}
 use native.Mathlib.Nat.{le_trans, mul-le-mul, mul-le-mul_left}
 use native.Mathlib.Omega.{arith}
 use lib.Dec.{T, leb, eqb, lit<}
@@ -13,12 +13,14 @@ use mir.Val.{Fits, SFits, to_z, of_z}
 use mir.Facts.{to_z-of_z}
 use borrow.Author.Tests.{leb-true, leb-false, ne_eqb}
 use Rattle.numbers.proofs.Flags.{chosen, where_false}
-use Rattle.wholes.specs.Wholes.{in_range, is_coordinate, is_place, table_scale, entry, used, down, sideways, upwards, whole_step}
+use Rattle.wholes.specs.Wholes.{in_range, is_coordinate, is_place, is_height, is_progress, table_scale, entry, used, down, sideways}
+use Rattle.wholes.specs.Wholes.{upwards, whole_step}
 use Rattle.wholes.specs.declared.WholePoint.{WholePoint}
-use Rattle.wholes.proofs.Parts.{plus, minus, Made, sum_made, difference_made, times_plus, times_minus, Share, share}
-use Rattle.wholes.proofs.Ranges.{fits, Near0, coordinate}
+use Rattle.wholes.proofs.Parts.{plus, minus, sum_made, difference_made, times_plus, times_minus, share}
+use Rattle.wholes.proofs.Ranges.{fits, coordinate}
 use Rattle.wholes.proofs.Rule.{entry_most}
-use Rattle.wholes.proofs.Door.{x_good, y_good, z_good}
+use Rattle.wholes.proofs.Ranges.{height, progress}
+use Rattle.wholes.proofs.Door.{all_good, four, start_good, target_good, height_good, progress_good, x_good, y_good, z_good}
 
 abbrev pub read : ℤ → ℤ
 read z = to_z w32 (of_z w32 z)
@@ -198,7 +200,7 @@ module _ (start target : WholePoint) (h p : ℕ) (A : is_place start ≡ true) (
     pub by_coordinates : (x y z : ℤ) → (p ≡ 2048 → ⊥)
         → x ≡ sideways (read start.x) (read target.x) p
         → y ≡ sideways (read start.y) (read target.y) p
-        → z ≡ upwards (read start.z) h p
+        → z ≡ upwards start.z h p
         → ◌≡◌ {A = WholePoint} (record { x = read x; y = read y; z = read z }) (whole_step start target h p)
     by_coordinates x y z N ex ey ez =
         let sx = x_good start A in
@@ -214,5 +216,27 @@ module _ (start target : WholePoint) (h p : ℕ) (A : is_place start ≡ true) (
         (ey ∙ ap₂ (λ (a b : ℤ). sideways a b p) (coordinate_read start.y sy) (coordinate_read target.y ty)) in
         let Z : read z ≡ upwards start.z h p =
         answered z _ (raised_fits start.z (h * entry (used p) / 16384) sz (share_most h (entry (used p)) H (used_most p P)))
-        (ez ∙ ap (λ (a : ℤ). upwards a h p) (coordinate_read start.z sz)) in
+        ez in
         same_point X Y Z ∙ where_false (eqb p 2048) target _ (ne_eqb p 2048 N)
+
+-- ---- the door of a step, by its four tests of what is read, and what has passed it
+pub by_tests : (start target : WholePoint) (h p : ℤ) {a b c d v : Bool} → SFits w32 h → SFits w32 p → a ≡ is_place start → b
+    ≡ is_place target
+    → c ≡ is_height (read h) → d ≡ is_progress (read p) → (a && b && c && d) ≡ v → all_good start target h p ≡ v
+by_tests start target h p H P e f g i is =
+    sym (four e f (tested (pos 0) (pos 1000) h _ H g) (tested (pos 0) (pos 2048) p _ P i)) ∙ is
+
+pub record Passed (start target : WholePoint) (h p : ℤ) : Type 0 where
+  pub from : is_place start ≡ true
+  pub to : is_place target ≡ true
+  pub height : (h ≡ pos (nat_abs h)) × (nat_abs h ≤ 1000)
+  pub progress : (p ≡ pos (nat_abs p)) × (nat_abs p ≤ 2048)
+
+pub passed : (start target : WholePoint) (h p : ℤ) → all_good start target h p ≡ true → Passed start target h p
+passed start target h p e =
+    record {
+      from = start_good start target h p e;
+      to = target_good start target h p e;
+      height = height h (height_good start target h p e);
+      progress = progress p (progress_good start target h p e);
+    }

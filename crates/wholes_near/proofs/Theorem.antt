@@ -19,7 +19,7 @@ use Rattle.units.proofs.Order.{le_part}
 use Rattle.series.specs.Fractions.{Within, value}
 use Rattle.legs.specs.declared.Point.{Point}
 use Rattle.moves.specs.Distance.{same}
-use Rattle.moves.specs.Moving.{point_of}
+use Rattle.moves.specs.Moving.{place_of}
 use Rattle.commands.specs.Constants.{one}
 use Rattle.steps.specs.Leg.{part_way, above, step_lifted_leg}
 use Rattle.wholes.specs.Wholes.{is_coordinate, is_place, whole_step}
@@ -69,11 +69,11 @@ float_under_way start target h p =
 
 module _ (start target : WholePoint) (h : ℕ) (last : Point) (away : same last (in_metres target) ≡ false) where
   float_under_way_lem : (p : ℕ) → p < 2048 → float_step start target h p last ≡ float_under_way start target h p
-  unfolding float_step step_lifted_leg point_of
+  unfolding float_step step_lifted_leg place_of
   float_under_way_lem p l = rw (away, not_done p l) refl
 
   float_done : float_step start target h 2048 last ≡ in_metres target
-  unfolding float_step step_lifted_leg point_of
+  unfolding float_step step_lifted_leg place_of
   float_done = rw (away, done) refl
 
 -- ---- the theorem: each coordinate from 0.1 unit below to 1.1 above

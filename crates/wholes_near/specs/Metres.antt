@@ -5,7 +5,7 @@ use Rattle.std.specs.Float.{binary32}
 use Rattle.std.specs.Float.Ieee.{round}
 use Rattle.series.specs.Fractions.{Fraction, ◌÷◌, negative}
 use Rattle.legs.specs.declared.Point.{Point}
-use Rattle.moves.specs.Moving.{point_of}
+use Rattle.moves.specs.Moving.{place_of}
 use Rattle.steps.specs.Leg.{step_lifted_leg}
 use Rattle.wholes.specs.declared.WholePoint.{WholePoint}
 
@@ -24,7 +24,7 @@ progress_of p = round binary32 false p 2048
 -- the f32 step on the same numbers
 unfoldable pub float_step : WholePoint → WholePoint → ℕ → ℕ → Point → Point
 float_step start target height p last =
-    point_of (step_lifted_leg (in_metres start) last (in_metres target) (metres (pos height)) (progress_of p) false)
+    place_of (step_lifted_leg (in_metres start) last (in_metres target) (metres (pos height)) (progress_of p) false)
 
 -- u units, in metres
 abbrev pub length : ℤ → Fraction

@@ -2,7 +2,7 @@
 use Rattle.std.specs.Prelude.{◌≡◌, ℕ, List, get_or}
 use mathlib.Core.Path.{ap, ap₂, ◌∙◌}
 use Rattle.legs.specs.Legs.{finite_feet}
-use Rattle.legs.specs.declared.Feet.{Feet}
+use Rattle.legs.specs.Legs.{Feet}
 use Rattle.commands.specs.Tripods.{inverted}
 use Rattle.commands.specs.declared.MoveCommand.{MoveCommand}
 use Rattle.commands.specs.declared.Tripod.{Tripod}

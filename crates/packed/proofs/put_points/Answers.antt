@@ -1,48 +1,18 @@
--- `packed::put_points` meets its contract: six points in row order.
-use native.Mathlib.Omega.{arith}
-use Rattle.legs.specs.Legs.{left_front, right_front, left_middle, right_middle, left_rear, right_rear}
-use Rattle.packed.proofs.Storing.{finite_foot, points_stored}
-use borrow.Author.Rules.{rules}
+-- `packed::put_points` meets its contract: one point more, and at the end all six.
+use Rattle.std.proofs.Common.{List, take, length, ap, ◌∙◌, refl, arith}
+use Rattle.std.proofs.lemmas.List.Edits.{sets}
+use Rattle.legs.specs.declared.Foot.{Foot}
+use Rattle.packed.specs.Packed.{point_bytes}
+use Rattle.packed.proofs.Runs.{points_run, runs_more, six_points_run}
 use Rattle.packed.proofs.put_points.Goals as goal
 
-pub put_point-requires : goal.put_point-requires
-put_point-requires c = (
-  omega arith,
-  finite_foot c.args.f c.requires.1 left_front,
-)
-
-pub put_point-requires-2 : goal.put_point-requires-2
-put_point-requires-2 c = (
-  omega arith,
-  finite_foot c.args.f c.requires.1 right_front,
-)
-
-pub put_point-requires-3 : goal.put_point-requires-3
-put_point-requires-3 c = (
-  omega arith,
-  finite_foot c.args.f c.requires.1 left_middle,
-)
-
-pub put_point-requires-4 : goal.put_point-requires-4
-put_point-requires-4 c = (
-  omega arith,
-  finite_foot c.args.f c.requires.1 right_middle,
-)
-
-pub put_point-requires-5 : goal.put_point-requires-5
-put_point-requires-5 c = (
-  omega arith,
-  finite_foot c.args.f c.requires.1 left_rear,
-)
-
-pub put_point-requires-6 : goal.put_point-requires-6
-put_point-requires-6 c = (
-  omega arith,
-  finite_foot c.args.f c.requires.1 right_rear,
-)
+pub loop-i-preserved : goal.loop-i-preserved
+loop-i-preserved c =
+    runs_more (λ p. point_bytes p.point) 12 (λ p. refl) c.args.s.now c.loop-i.s _ c.args.at c.loop-i.i c.as_legs.result _
+    (omega (arith, ap length c.as_legs.ensures)) c.loop-i.invariant c.put_point.ensures
 
 pub returns : goal.returns
 returns c =
-    points_stored c.args.f c.args.at c.args.s.now _ _ _ _ _ _ c.put_point.ensures
-    c.put_point-2.ensures c.put_point-3.ensures c.put_point-4.ensures
-    c.put_point-5.ensures c.put_point-6.ensures
+    c.loop-i.invariant
+    ∙ ap (λ (ps : List Foot). sets c.args.s.now c.args.at (points_run (take c.loop-i.i ps))) c.as_legs.ensures
+    ∙ ap (sets c.args.s.now c.args.at) (six_points_run c.args.f c.loop-i.i c.loop-i-test.false)

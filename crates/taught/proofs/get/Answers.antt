@@ -1,46 +1,26 @@
 -- `taught::get` meets its contract: the pose of the place where the id stands.
-use mathlib.Core.Path.{◌∙◌}
-use Rattle.std.specs.Prelude.{ℕ, List}
 use native.Mathlib.Omega.{arith}
 use borrow.Author.Rules.{rules}
-use Rattle.taught.specs.declared.look.Seen.{Seen}
-use Rattle.taught.proofs.Calls.{find_number_lem, says_refused, FoundIn, found_in, got}
+use Rattle.taught.proofs.Calls.{get_bad, get_away, found_in, got}
 use Rattle.taught.proofs.get.Goals as goal
 
-pub returns-then-number-ne0 : goal.returns-then-number-ne0
-returns-then-number-ne0 c =
-    says_refused _ _ _ (c.find_refused-number.ensures ∙ find_number_lem _ _ _ c.looked-seen.ensures) c.if-number-ne0.true
+pub returns-in_err-seen : goal.returns-in_err-seen
+returns-in_err-seen c = search (rules, get_bad c.args.room.now c.args.id c.in_err-seen.field-0.0 c.in_err-seen.ensures)
+
+pub returns-in_err-admit_find : goal.returns-in_err-admit_find
+returns-in_err-admit_find c = search (
+  rules,
+  get_away c.args.room.now c.args.id c.in_err-admit_find.field-0.0 c.in_ok-seen.seen c.in_ok-seen.ensures c.in_err-admit_find.ensures,
+)
 
 pub overflow_mul-seen : goal.overflow_mul-seen
-overflow_mul-seen c =
-    let seen : Seen = c.looked-seen.result in
-    let room : List ℕ = c.args.room.now in
-    let place : FoundIn room c.args.id seen c.find_refused-number.result c.looked-seen.ensures =
-    found_in room c.args.id seen c.find_refused-number.result c.looked-seen.ensures
-    c.find_refused-number.ensures c.if-number-ne0.false in
-    let at = place in omega (arith, at.below, at.few)
+overflow_mul-seen c = let at = found_in _ _ _ c.in_ok-seen.ensures c.in_ok-admit_find.ensures in omega (arith, at.below, at.few)
 
 pub overflow_add-seen : goal.overflow_add-seen
-overflow_add-seen c =
-    let seen : Seen = c.looked-seen.result in
-    let room : List ℕ = c.args.room.now in
-    let place : FoundIn room c.args.id seen c.find_refused-number.result c.looked-seen.ensures =
-    found_in room c.args.id seen c.find_refused-number.result c.looked-seen.ensures
-    c.find_refused-number.ensures c.if-number-ne0.false in
-    let at = place in omega (arith, at.below, at.few)
+overflow_add-seen c = let at = found_in _ _ _ c.in_ok-seen.ensures c.in_ok-admit_find.ensures in omega (arith, at.below, at.few)
 
 pub feet_at-requires : goal.feet_at-requires
-feet_at-requires c =
-    let seen : Seen = c.looked-seen.result in
-    let room : List ℕ = c.args.room.now in
-    let place : FoundIn room c.args.id seen c.find_refused-number.result c.looked-seen.ensures =
-    found_in room c.args.id seen c.find_refused-number.result c.looked-seen.ensures
-    c.find_refused-number.ensures c.if-number-ne0.false in
-    let at = place in omega (arith, at.below, at.few, at.long)
+feet_at-requires c = let at = found_in _ _ _ c.in_ok-seen.ensures c.in_ok-admit_find.ensures in omega (arith, at.below, at.few, at.long)
 
 pub returns : goal.returns
-returns c =
-    let seen : Seen = c.looked-seen.result in
-    let room : List ℕ = c.args.room.now in
-    got room c.args.id seen _ c.looked-seen.ensures _
-    c.find_refused-number.ensures c.if-number-ne0.false c.feet_at.ensures
+returns c = got _ _ _ c.in_ok-seen.ensures _ c.in_ok-admit_find.ensures c.feet_at.ensures

@@ -4,7 +4,6 @@ use mathlib.Core.Bool.{Bool}
 use lib.IntN.{ℤ, pos, negsuc}
 use mir.Syntax.{w32}
 use mir.Val.{SFits}
-use borrow.Author.Rules.{rules}
 use Rattle.wholes.specs.Wholes.{is_coordinate}
 use Rattle.wholes.proofs.Steps.{read, tested, all_three}
 use Rattle.wholes.proofs.is_place.Goals as goal

@@ -1,7 +1,6 @@
 -- `wholes::is_progress` meets its contract: the range, asked of what is read.
 use lib.IntN.{pos}
 use Rattle.wholes.proofs.Steps.{tested}
-use borrow.Author.Rules.{rules}
 use Rattle.wholes.proofs.is_progress.Goals as goal
 
 pub returns : goal.returns

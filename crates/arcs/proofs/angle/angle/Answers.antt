@@ -4,7 +4,6 @@ use mathlib.Core.Path.{subst, sym}
 use Rattle.std.specs.Prelude.{ℕ, ◌≤◌}
 use Rattle.arcs.specs.How.{half}
 use Rattle.arcs.proofs.Ranges.{wide_le, angle_is}
-use borrow.Author.Rules.{rules}
 use Rattle.arcs.proofs.angle.angle.Goals as goal
 
 pub overflow_add-result : goal.overflow_add-result

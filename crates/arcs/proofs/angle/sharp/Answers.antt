@@ -1,6 +1,5 @@
 -- `arcs::angle::sharp` meets its contract: a quarter turn less the angle where the vector is steep.
 use Rattle.arcs.proofs.Ranges.{sharp_is}
-use borrow.Author.Rules.{rules}
 use Rattle.arcs.proofs.angle.sharp.Goals as goal
 
 pub returns : goal.returns

@@ -1,7 +1,6 @@
 -- `arcs::angle::slope` meets its contract: the first term is at most 2 ^ 23 and the second at most that, so nothing overflows.
 use native.Mathlib.Omega.{arith}
 use Rattle.arcs.proofs.Ranges.{Steps, steps, Sloped, slope_is}
-use borrow.Author.Rules.{rules}
 use Rattle.arcs.proofs.angle.slope.Goals as goal
 
 pub overflow_mul-straight : goal.overflow_mul-straight

@@ -4,7 +4,6 @@ use native.Mathlib.Omega.{arith}
 use Rattle.std.specs.Prelude.{◌≡◌, ◌%◌, ◌≤◌}
 use Rattle.arcs.specs.How.{arc_sine}
 use Rattle.arcs.proofs.Ranges.{Grown, sine_by, sine_steps, sine_is}
-use borrow.Author.Rules.{rules}
 use Rattle.arcs.proofs.arc_sine.arc_sine.Goals as goal
 
 pub overflow_mul-rate : goal.overflow_mul-rate

@@ -3,7 +3,6 @@ use native.Mathlib.Omega.{arith}
 use mathlib.Core.Path.{subst, sym}
 use Rattle.std.specs.Prelude.{ℕ, ◌≤◌}
 use Rattle.arcs.proofs.Ranges.{beside_le, upright_is}
-use borrow.Author.Rules.{rules}
 use Rattle.arcs.proofs.arc_sine.upright.Goals as goal
 
 pub overflow_add-result : goal.overflow_add-result

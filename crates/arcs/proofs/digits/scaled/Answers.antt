@@ -5,7 +5,6 @@ use lib.Dec.{le→leb}
 use Rattle.std.specs.Prelude.{pos}
 use lib.Ieee.{binary32, in_float, mul, of_int}
 use Rattle.arcs.proofs.Results.{product_is}
-use borrow.Author.Rules.{rules}
 use Rattle.arcs.proofs.digits.scaled.Goals as goal
 
 pub int_to_float-result : goal.int_to_float-result

@@ -8,9 +8,7 @@ use Rattle.numbers.specs.declared.door.Limit.{Limit}
 use mathlib.Core.Path.{sym, subst}
 use lib.Ieee.{binary32, fits}
 use mathlib.Core.Path.{◌∙◌}
-use Rattle.arcs.proofs.Bands.{inside_is}
 use Rattle.arcs.proofs.Answers.{outside_is, arc_cosine_both}
-use borrow.Author.Rules.{rules}
 use Rattle.arcs.proofs.unchecked.arc_cosine.Goals as goal
 
 pub inside_arc_cosine-requires : goal.inside_arc_cosine-requires
@@ -27,8 +25,7 @@ returns-then-is_permitted c =
     let passed : T (permits arc_cosine_argument c.args.q) = subst T (sym (sym test ∙ c.if-is_permitted.true)) tt in
     let held : T (fits binary32 c.args.q) = subst T (sym c.well_formed.0.1) tt in
     let told =
-    arc_cosine_both c.args.q c.inside_arc_cosine.result held
-    (c.inside_arc_cosine.ensures ∙ sym (inside_is c.args.q passed)) in
+    arc_cosine_both c.args.q c.inside_arc_cosine.result held c.inside_arc_cosine.ensures in
     record { exact = told.0; band = told.1 }
 
 pub returns-else-is_permitted : goal.returns-else-is_permitted

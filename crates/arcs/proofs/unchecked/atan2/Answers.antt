@@ -5,9 +5,7 @@ use Rattle.numbers.specs.Door.{finite}
 use mathlib.Core.Path.{sym, subst}
 use lib.Ieee.{binary32, fits}
 use mathlib.Core.Path.{◌∙◌}
-use Rattle.arcs.proofs.Bands.{finite_atan2_is}
 use Rattle.arcs.proofs.Answers.{not_finite_is, atan2_both}
-use borrow.Author.Rules.{rules}
 use Rattle.arcs.proofs.unchecked.atan2.Goals as goal
 
 pub finite_atan2-requires : goal.finite_atan2-requires
@@ -25,8 +23,7 @@ returns-then-is_finite c =
     let held_y : T (fits binary32 c.args.y) = subst T (sym c.well_formed.0.1) tt in
     let held_x : T (fits binary32 c.args.x) = subst T (sym c.well_formed.1.0.1) tt in
     let told =
-    atan2_both c.args.y c.args.x c.finite_atan2.result held_y held_x
-    (c.finite_atan2.ensures ∙ sym (finite_atan2_is c.args.y c.args.x passed)) in
+    atan2_both c.args.y c.args.x c.finite_atan2.result held_y held_x c.finite_atan2.ensures in
     record { exact = told.0; band = told.1 }
 
 pub returns-else-is_finite : goal.returns-else-is_finite

@@ -11,7 +11,6 @@ use Rattle.units.proofs.Bits.{bare_lt}
 use Rattle.units.proofs.Door.{finite_no_nan}
 use Rattle.units.specs.Patterns.{sign_set, bare}
 use Rattle.arcs.proofs.Answers.{atan2_is, atan2_zero, either_le, patterns_lt, patterns_sorted}
-use borrow.Author.Rules.{rules}
 use Rattle.arcs.proofs.unchecked.finite_atan2.Goals as goal
 
 pub float_to_bits-a : goal.float_to_bits-a

@@ -10,7 +10,6 @@ use Rattle.units.proofs.Door.{finite_no_nan}
 use Rattle.arcs.specs.How.{side}
 use Rattle.arcs.proofs.ArcBand.{permitted_finite}
 use Rattle.arcs.proofs.Answers.{root_finite, root_is, pattern_proper, upright_lt, upright_is}
-use borrow.Author.Rules.{rules}
 use Rattle.arcs.proofs.unchecked.inside_arc_cosine.Goals as goal
 
 pub float_to_bits-b : goal.float_to_bits-b

@@ -1,5 +1,4 @@
 -- `joints::unchecked::calculate_fk` meets its contract, leg by leg: three places of the row of turns are those of its bends.
-use borrow.Author.Rules.{rules}
 use Rattle.std.specs.Prelude.{◌≡◌, ℕ, List, map, get_or}
 use mathlib.Core.Path.{ap, ◌∙◌}
 use lib.Ieee.{nan}

@@ -12,5 +12,6 @@ returns c = simp (
   c.headed_by-s-2.ensures,
   c.headed_by-s.ensures,
   c.none_selected-s.ensures,
+  c.named-named.ensures,
 )
     (filled c.args.feet c.args.mask)

@@ -11,7 +11,6 @@ use Rattle.numbers.specs.Stored.{Stored}
 use Rattle.lines.specs.Compared.{coordinate}
 use Rattle.lines.proofs.Numerals.{length_hex}
 use Rattle.numbers.proofs.Stores.{stored_more, stored_as, stored_nothing}
-use borrow.Author.Rules.{rules}
 use Rattle.lines.proofs.compared.put_coordinate.Goals as goal
 
 pub returns-then-bench-office : goal.returns-then-bench-office

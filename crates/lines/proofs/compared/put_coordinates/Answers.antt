@@ -3,7 +3,6 @@ use native.Mathlib.Omega.{arith}
 use Rattle.lines.specs.Compared.{coordinates}
 use Rattle.numbers.proofs.Stores.{stored_more}
 use Rattle.lines.proofs.Widths.{coordinate_width}
-use borrow.Author.Rules.{rules}
 use Rattle.lines.proofs.compared.put_coordinates.Goals as goal
 
 pub put_coordinate-y-requires : goal.put_coordinate-y-requires

@@ -3,7 +3,6 @@ use native.Mathlib.Omega.{arith}
 use Rattle.lines.specs.Fields.{parted}
 use Rattle.lines.proofs.Decimal.{length_at_most}
 use Rattle.numbers.proofs.Stores.{stored_more}
-use borrow.Author.Rules.{rules}
 use Rattle.lines.proofs.compared.put_number.Goals as goal
 
 pub count-requires : goal.count-requires

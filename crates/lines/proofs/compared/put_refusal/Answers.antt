@@ -1,7 +1,6 @@
 -- `lines::compared::put_refusal` meets its contract.
 use Rattle.lines.specs.Fields.{parted}
 use Rattle.numbers.proofs.Stores.{stored_more}
-use borrow.Author.Rules.{rules}
 use Rattle.lines.proofs.compared.put_refusal.Goals as goal
 
 pub returns : goal.returns

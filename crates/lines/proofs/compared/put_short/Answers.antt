@@ -2,7 +2,6 @@
 use native.Mathlib.Omega.{arith}
 use Rattle.lines.proofs.Widths.{number_width}
 use Rattle.numbers.proofs.Stores.{stored_more}
-use borrow.Author.Rules.{rules}
 use Rattle.lines.proofs.compared.put_short.Goals as goal
 
 pub newline-requires : goal.newline-requires

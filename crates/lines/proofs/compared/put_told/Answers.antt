@@ -13,7 +13,6 @@ use Rattle.numbers.specs.Stored.{Stored}
 use Rattle.lines.specs.declared.compared.Told.{Told}
 use Rattle.numbers.proofs.Flags.{not_false, not_true}
 use Rattle.numbers.proofs.Stores.{stored_as, stored_nothing, stored_where}
-use borrow.Author.Rules.{rules}
 use Rattle.std.proofs.lemmas.Bool.{not_from_false, not_from_true}
 use Rattle.lines.proofs.compared.put_told.Goals as goal
 

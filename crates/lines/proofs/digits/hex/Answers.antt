@@ -22,4 +22,4 @@ returns-then-least-n c = simp (c.if-least-n.true, c.read_in.ensures)
 
 pub returns-else-least-n : goal.returns-else-least-n
 unfolding hex_of
-returns-else-least-n c = simp (c.if-least-n.false, c.no_digits.ensures)
+returns-else-least-n c = simp c.if-least-n.false

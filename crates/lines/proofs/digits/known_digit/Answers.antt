@@ -1,5 +1,4 @@
 -- `lines::digits::known_digit` meets its contract, by the bits of a digit's byte.
-use borrow.Author.Rules.{rules}
 use Rattle.lines.proofs.Values.{digit_by_bits}
 use Rattle.lines.proofs.digits.known_digit.Goals as goal
 

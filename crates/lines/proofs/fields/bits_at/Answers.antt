@@ -1,14 +1,12 @@
 -- `lines::fields::bits_at` meets its contract. The eight bytes are cut out of the line.
-use mathlib.Core.Path.{◌≡◌, sym, ap, ◌∙◌}
+use mathlib.Core.Path.{sym, ap, ◌∙◌}
 use Prim.Native.Nat.{◌+◌, ◌≤◌}
-use native.Mathlib.Omega.{arith}
 use lib.Dec.{eqb}
 use lib.ListN.{length, get_or}
 use Rattle.numbers.proofs.OnePass.{and_right}
-use Rattle.lines.specs.declared.fields.Field.{Field}
+use Rattle.lines.specs.Parts.{Field}
 use Rattle.lines.specs.Digits.{read_in}
 use Rattle.lines.proofs.Places.{behind, eight_behind, field_is, bits_fit}
-use borrow.Author.Rules.{rules}
 use Rattle.lines.proofs.fields.bits_at.Goals as goal
 
 pub spelt-requires : goal.spelt-requires

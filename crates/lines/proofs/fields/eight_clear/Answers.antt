@@ -1,5 +1,4 @@
 -- `lines::fields::eight_clear` meets its contract. Eight bytes are passed one by one.
-use mathlib.Core.Path.{◌≡◌}
 use mathlib.Core.Bool.{false≢true}
 use Prim.Native.Nat.{◌+◌, ◌≤◌}
 use lib.ListN.{length}

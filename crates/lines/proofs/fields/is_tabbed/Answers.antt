@@ -1,11 +1,10 @@
 -- `lines::fields::is_tabbed` meets its contract. The eight bytes are cut out of the line.
-use mathlib.Core.Path.{◌≡◌, sym, ap}
+use mathlib.Core.Path.{sym, ap}
 use Prim.Native.Nat.{◌+◌, ◌≤◌}
 use native.Mathlib.Omega.{arith}
 use lib.ListN.{length}
-use Rattle.lines.specs.declared.fields.Field.{Field}
+use Rattle.lines.specs.Parts.{Field}
 use Rattle.lines.proofs.Places.{field_is}
-use borrow.Author.Rules.{rules}
 use Rattle.lines.proofs.fields.is_tabbed.Goals as goal
 
 pub returns : goal.returns

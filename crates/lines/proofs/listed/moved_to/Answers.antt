@@ -2,11 +2,10 @@
 use mathlib.Core.Path.{sym, ap}
 use mathlib.Core.List.{List}
 use native.Mathlib.Omega.{arith}
-use Rattle.lines.specs.declared.fields.Field.{Field}
+use Rattle.lines.specs.Parts.{Field}
 use Rattle.lines.specs.Parts.{bits_of}
 use Rattle.lines.specs.Reading.{moved}
 use Rattle.lines.proofs.Places.{fields_three, three_good}
-use borrow.Author.Rules.{rules}
 use Rattle.lines.proofs.listed.moved_to.Goals as goal
 
 pub bits_at-requires : goal.bits_at-requires

@@ -1,7 +1,6 @@
 -- `lines::listed::put_short` meets its contract. Its runs, one behind the other, are the line.
 use mathlib.Core.List.{append_assoc}
 use native.Mathlib.Omega.{arith}
-use borrow.Author.Rules.{rules}
 use Rattle.lines.specs.Fields.{parted}
 use Rattle.lines.specs.Lines.{body}
 use Rattle.lines.proofs.Decimal.{length_at_most}

@@ -6,7 +6,6 @@ use native.Mathlib.Nat.{mod-eq_of_lt}
 use native.Mathlib.Omega.{arith}
 use lib.ListN.{length, set, length-set}
 use lib.Seq.{sets}
-use borrow.Author.Rules.{rules}
 use Rattle.lines.specs.Digits.{digit, decimal}
 use Rattle.lines.proofs.Decimal.{decimal_few, decimal_more, length_few, length_more, length_positive}
 use Rattle.numbers.proofs.Stores.{last_stored_first}

@@ -1,15 +1,9 @@
 -- `lines::put::count` meets its contract. The digits of m stored over what is there give the digits of n stored over what was there.
-use mathlib.Core.Path.{◌≡◌, refl, sym, ap, ◌∙◌}
-use mathlib.Core.List.{List, [], ◌∷◌, ◌++◌}
-use Prim.Native.Nat.{ℕ, ◌+◌, ◌≤◌, ◌/◌, ◌%◌}
-use native.Mathlib.Nat.{mod-eq_of_lt}
-use native.Mathlib.Omega.{arith}
-use lib.ListN.{length, set, length-set}
+use mathlib.Core.Path.{◌≡◌}
+use Prim.Native.Nat.{◌+◌, ◌≤◌}
+use lib.ListN.{length}
 use lib.Seq.{sets}
-use borrow.Author.Rules.{rules}
-use Rattle.lines.specs.Digits.{digit, decimal}
-use Rattle.lines.proofs.Decimal.{decimal_few, decimal_more, length_few, length_more, length_positive}
-use Rattle.numbers.proofs.Stores.{last_stored_first}
+use Rattle.lines.specs.Digits.{decimal}
 use Rattle.lines.proofs.put.count.Given as goal
 
 abbrev pub invariant-loop-m : goal.invariant-loop-m

@@ -1,9 +1,8 @@
 -- `lines::put::mark` meets its contract.
 use mathlib.Core.Path.{refl}
-use native.Mathlib.Numerals.{add-one, towards_suc}
+use native.Mathlib.Numerals.{add-one}
 use native.Mathlib.Omega.{arith}
 use lib.ListN.{length-set}
-use borrow.Author.Rules.{rules}
 use Rattle.lines.proofs.put.mark.Goals as goal
 
 pub bounds-buf-at-2 : goal.bounds-buf-at-2

@@ -1,9 +1,8 @@
 -- `lines::put::pattern` meets its contract.
 use mathlib.Core.Path.{refl}
-use native.Mathlib.Numerals.{add-one, towards_suc}
+use native.Mathlib.Numerals.{towards_suc}
 use native.Mathlib.Omega.{arith}
 use lib.ListN.{length-set}
-use borrow.Author.Rules.{rules}
 use Rattle.lines.specs.Digits.{hex, numeral}
 use Rattle.lines.proofs.put.pattern.Goals as goal
 

@@ -1,10 +1,8 @@
 -- `lines::put::width` meets its contract. The digits counted and those left of m are those of n and one.
 use mathlib.Core.Path.{◌≡◌}
 use Prim.Native.Nat.{◌+◌, ◌≤◌}
-use native.Mathlib.Omega.{arith}
 use lib.ListN.{length}
 use Rattle.lines.specs.Digits.{decimal}
-use Rattle.lines.proofs.Decimal.{length_few, length_more, length_at_most}
 use Rattle.lines.proofs.put.width.Given as goal
 
 abbrev pub invariant-loop-m : goal.invariant-loop-m

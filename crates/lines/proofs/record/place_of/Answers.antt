@@ -1,5 +1,4 @@
 -- `lines::record::place_of` meets its contract.
-use borrow.Author.Rules.{rules}
 use Rattle.lines.proofs.record.place_of.Goals as goal
 
 pub returns : goal.returns

@@ -1,10 +1,9 @@
 -- `lines::record::record_of` meets its contract. The tests are the definition's: the length, the letter, the seven fields.
 use mathlib.Core.Path.{sym, ap, ◌∙◌}
 use borrow.Author.Tests.{ne_eqb}
-use Rattle.lines.specs.declared.record.Asked.TheVariants.{Record}
+use Rattle.std.specs.Prelude.{Some}
 use Rattle.lines.specs.Record.{record_of}
 use Rattle.lines.proofs.Places.{another_letter, record_yes, record_no}
-use borrow.Author.Rules.{rules}
 use Rattle.lines.proofs.record.record_of.Goals as goal
 
 pub returns-then-s-ne64 : goal.returns-then-s-ne64
@@ -19,7 +18,7 @@ walk_in-requires c = (c.if-s-ne64.false, sym c.seven_tabbed.ensures ∙ c.if-sev
 
 pub returns-then-seven_tabbed : goal.returns-then-seven_tabbed
 returns-then-seven_tabbed c =
-    ap Record c.walk_in.ensures
+    ap Some c.walk_in.ensures
     ∙ record_yes c.args.s.now
     c.if-s-ne64.false
     c.if-s-ne87.false (sym c.seven_tabbed.ensures ∙ c.if-seven_tabbed.true)

@@ -3,7 +3,6 @@ use mathlib.Core.Path.{sym, ap}
 use mathlib.Core.Bool.{true}
 use Rattle.lines.specs.Parts.{all_good}
 use Rattle.lines.proofs.Places.{fields_seven}
-use borrow.Author.Rules.{rules}
 use Rattle.lines.proofs.record.seven_tabbed.Goals as goal
 
 pub returns : goal.returns

@@ -1,5 +1,4 @@
 -- `lines::record::walk_of` meets its contract.
-use borrow.Author.Rules.{rules}
 use Rattle.lines.proofs.record.walk_of.Goals as goal
 
 pub returns : goal.returns

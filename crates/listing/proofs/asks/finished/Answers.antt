@@ -1,6 +1,5 @@
 -- `listing::asks::finished` meets its contract. Where nothing is kept, the bytes are the whole line.
 use mathlib.Core.Path.{ap, sym, ◌∙◌}
-use borrow.Author.Rules.{rules}
 use Rattle.lines.specs.Carry.{held}
 use Rattle.listing.specs.Asks.{asks}
 use Rattle.listing.proofs.Asking.{asks_now}

@@ -1,12 +1,7 @@
 -- `listing::block::fill` meets its contract. What is stored so far and what is left join to the block.
-use Rattle.std.specs.Prelude.{◌≡◌, ℕ, false, length}
-use mathlib.Core.Path.{refl, sym, ap, ◌∙◌}
+use Rattle.std.specs.Prelude.{◌≡◌, false, length}
 use Rattle.lines.specs.Lines.{has_room}
-use borrow.Author.Rules.{rules}
 use Rattle.listing.specs.Block.{text_of, lines_left, Part}
-use Rattle.listing.specs.declared.block.Rest.{Rest}
-use Rattle.listing.specs.declared.block.Filled.{Filled}
-use Rattle.listing.proofs.Blocks.{part_none, part_more, no_room, fewer_after, is_going, is_fit}
 use Rattle.listing.proofs.block.fill.Given as goal
 
 abbrev pub invariant-loop-r : goal.invariant-loop-r

@@ -1,5 +1,4 @@
 -- `listing::block::header` meets its contract: the line of its version is stored where there is room.
-use borrow.Author.Rules.{rules}
 use Rattle.listing.proofs.block.header.Goals as goal
 
 pub returns : goal.returns

@@ -1,7 +1,5 @@
 -- `listing::block::moves_on` meets its contract.
-use Rattle.std.specs.Prelude.{◌≡◌}
 use Rattle.listing.specs.Block.{moves_on, most_steps}
-use borrow.Author.Rules.{rules}
 use Rattle.listing.proofs.block.moves_on.Goals as goal
 
 pub returns-then-is_same : goal.returns-then-is_same

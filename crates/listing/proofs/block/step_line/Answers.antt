@@ -1,5 +1,4 @@
 -- `listing::block::step_line` meets its contract.
-use borrow.Author.Rules.{rules}
 use Rattle.listing.proofs.block.step_line.Goals as goal
 
 pub returns : goal.returns

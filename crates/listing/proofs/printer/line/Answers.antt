@@ -2,9 +2,10 @@
 use Rattle.std.specs.Prelude.{◌≡◌, ◌-◌, ◌<◌, ◌≤◌, length, take, drop}
 use mathlib.Core.Path.{refl, subst}
 use native.Mathlib.Omega.{arith}
-use lib.ListN.{length-take}
 use Rattle.lines.specs.Carry.{held, keep}
-use Rattle.lines.specs.declared.record.Asked.{Asked}
+use Rattle.lines.proofs.Cutting.{held_short}
+use Rattle.std.specs.Prelude.{Option}
+use Rattle.lines.specs.declared.record.Walk.{Walk as Record}
 use Rattle.listing.specs.Listing.{Prints}
 use Rattle.listing.specs.Block.{text_of}
 use Rattle.listing.specs.declared.printer.Printer.{Printer}
@@ -23,14 +24,12 @@ returns-then-end-n c =
     let a = c.args in
     let pre = c.requires in
     let p : Printer = record { carry = a.c; rest = a.rest } in
-    let row = c.well_formed.0.1.1.0.1.0 in
-    let full : length a.c.bytes ≡ 128 = search (rules, row) in
-    let short : length (held a.c).text ≤ 128 = omega (arith, length-take a.c.len a.c.bytes) in
+    let short = held_short a.c in
     let e = c.field_end-end in
     let ends : e.result < length a.part.now = c.if-end-n.true in
     let empty = c.empty.ensures in
     let w = c.whole in
-    let asked = subst (λ (x : Asked). Prints x (text_of w.result)) c.finished.ensures w.ensures in
+    let asked = subst (λ (x : Option Record). Prints x (text_of w.result)) c.finished.ensures w.ensures in
     (reads_line a.part.now p a.from e.result _ e.ensures pre.1 pre.0 short ends refl empty asked, refl, omega arith)
 
 pub returns-else-end-n : goal.returns-else-end-n

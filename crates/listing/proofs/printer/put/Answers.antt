@@ -1,10 +1,9 @@
 -- `listing::printer::put` meets its contract. What is read, stored and left so far is what one call does.
-use Rattle.std.specs.Prelude.{◌≡◌, ◌-◌, ◌<◌, Bool, false, not, ◌&&◌, length}
+use Rattle.std.specs.Prelude.{◌<◌, Bool, not, ◌&&◌, length}
 use mathlib.Core.Path.{refl, sym, ap, ◌∙◌}
 use native.Mathlib.Omega.{arith}
 use borrow.Author.Rules.{rules}
 use Rattle.lines.specs.Lines.{has_room}
-use Rattle.listing.specs.Printer.{Puts}
 use Rattle.numbers.proofs.Stores.{stored_length}
 use Rattle.listing.specs.declared.printer.Reached.{Reached}
 use Rattle.listing.proofs.Blocks.{is_fit, same_room, no_room}

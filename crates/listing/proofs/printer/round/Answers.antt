@@ -4,7 +4,6 @@ use Rattle.std.specs.Prelude.{ℕ, ◌<◌}
 use native.Mathlib.Omega.{arith}
 use Rattle.listing.specs.Printer.{Puts}
 use Rattle.listing.proofs.Feeding.{fills_nothing, puts_line, puts_more}
-use borrow.Author.Rules.{rules}
 use Rattle.listing.proofs.printer.round.Goals as goal
 
 pub returns : goal.returns

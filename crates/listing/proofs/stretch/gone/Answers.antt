@@ -1,40 +1,38 @@
 -- `listing::stretch::gone` meets its contract: the place goes up to the end of the part.
-use Rattle.std.specs.Prelude.{◌≡◌, true, false, not, ◌&&◌, length}
-use mathlib.Core.Path.{refl, sym, ◌∙◌}
-use mathlib.Core.Bool.{false≢true}
+use Rattle.std.specs.Prelude.{◌≡◌, length}
+use mathlib.Core.Path.{refl}
+use native.Mathlib.Omega.{arith}
 use borrow.Author.Rules.{rules}
-use Rattle.lines.specs.Lines.{has_room}
-use Rattle.numbers.proofs.Flags.{not_true, not_false, ahead, comes_nearer}
-use Rattle.listing.specs.Stretch.{Goes, Unmoved}
-use Rattle.listing.proofs.Stretches.{goes_nowhere, goes_more, unmoved_more}
+use Rattle.listing.proofs.Stretches.{goes_nowhere, goes_more, moved_on, unmoved_more}
 use Rattle.listing.proofs.stretch.gone.Goals as goal
 
-pub loop-g-init : goal.loop-g-init
-loop-g-init c = (refl, goes_nowhere _ _ _, λ going stopped. absurd (false≢true (sym going ∙ stopped)), λ none c. refl)
+pub loop-next-init : goal.loop-next-init
+loop-next-init c = (refl, goes_nowhere _ _ _, c.filled-g.ensures.1, λ none. refl)
 
-pub loop-g-smaller : goal.loop-g-smaller
-loop-g-smaller c =
-    let l = c.loop-g in
-    let next = c.onward-g in
-    let a = c.args in
-    let going = not_true l.g.stopped c.loop-g-test.true in
-    let h = next.result in
-    comes_nearer (length a.part.now) l.g.from h.from l.g.stopped h.stopped going next.ensures.nearer
+pub loop-next-smaller : goal.loop-next-smaller
+loop-next-smaller c = omega (arith, c.in-Some.ensures.nearer.0, c.in-Some.ensures.nearer.1, c.filled-g-in-Some.ensures.0.0)
 
-pub loop-g-preserved : goal.loop-g-preserved
-loop-g-preserved c =
-    let a = c.args in
-    let l = c.loop-g in
-    let next = c.onward-g in
-    let x = next.ensures in
-    let same = l.invariant.0 in (
+pub loop-next-preserved : goal.loop-next-preserved
+loop-next-preserved c =
+    let part = c.args.part.now in
+    let l = c.loop-next in
+    let next = c.in-Some.next in
+    let x = c.filled-g-in-Some.ensures in
+    let h = c.filled-g-in-Some.result in (
       search rules,
-      goes_more _ _ l.g _ l.invariant.1 x.goes,
-      λ going. x.full,
-      unmoved_more a.part.now a.buf.now l.buf a.g l.g next.result same l.invariant.3 x.unmoved,
+      goes_more c.filled-g.result l.g h l.invariant.1 (goes_more l.g next h (c.in-Some.ensures.goes l.buf) (λ k none. x.0.1 part k)),
+      x.1,
+      moved_on _ l.buf c.filled-g.result l.g l.invariant.3 l.invariant.0 c.in-Some.ensures.room,
     )
 
 pub returns : goal.returns
 returns c =
-    let l = c.loop-g in
-    (l.invariant.1, λ going. l.invariant.2 going (not_false _ c.loop-g-test.false), l.invariant.3)
+    let a = c.args in
+    let l = c.loop-next in
+    let first = c.filled-g in
+    let x = first.ensures in
+    let long : length first.new.buf ≡ length a.buf.now = search rules in (
+      goes_more a.g first.result l.g (λ k none. x.0.1 a.part.now k) l.invariant.1,
+      l.invariant.2,
+      unmoved_more a.buf.now first.new.buf a.g first.result l.g long x.2 l.invariant.3,
+    )

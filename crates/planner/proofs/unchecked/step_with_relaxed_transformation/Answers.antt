@@ -1,5 +1,4 @@
 -- `planner::unchecked::step_with_relaxed_transformation` meets its contract: what each call gives is the part of the plan that it computes.
-use Rattle.commands.proofs.Constants.{nought_bits}
 use Rattle.planner.specs.Plan.{between}
 use Rattle.planner.proofs.Together.{together}
 use Rattle.planner.proofs.Bits.{two_bits}
@@ -10,7 +9,6 @@ unfolding between
 returns c =
     let a = c.args in
     simp (
-      nought_bits,
       two_bits,
       c.applied_feet.ensures,
       c.ready_feet.ensures,

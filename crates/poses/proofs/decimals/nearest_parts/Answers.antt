@@ -4,7 +4,6 @@ use mathlib.Core.Path.{sym, ap, ◌∙◌}
 use native.Mathlib.Nat.{le_trans, le_of_eq}
 use native.Mathlib.Omega.{arith}
 use lib.Pow.{pow_mono}
-use borrow.Author.Rules.{rules}
 use Rattle.poses.proofs.Parts.{no_parts, some_parts, one_up}
 use Rattle.poses.proofs.decimals.nearest_parts.Goals as goal
 

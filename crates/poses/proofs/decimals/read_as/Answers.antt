@@ -2,7 +2,6 @@
 use Rattle.std.specs.Prelude.{◌≡◌, ◌+◌, Bool, true, false}
 use mathlib.Core.Path.{sym, ap, ◌∙◌}
 use lib.Ieee.{binary32, of_bits}
-use borrow.Author.Rules.{rules}
 use Rattle.poses.specs.Decimals.{read_as}
 use Rattle.poses.proofs.SignBit.{read_no_nan, read_minus}
 use Rattle.poses.proofs.decimals.read_as.Goals as goal

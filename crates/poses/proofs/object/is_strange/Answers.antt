@@ -1,16 +1,14 @@
 -- `poses::object::is_strange` meets its contract.
-use Rattle.std.specs.Prelude.{true, ltb}
-use borrow.Author.Rules.{rules}
-use borrow.Author.Tests.{lt-ltb, le-ltb}
-use Rattle.poses.specs.Gathering.{has_value, slot_at}
-use Rattle.numbers.proofs.Flags.{where_true, where_false}
+use Rattle.std.specs.Prelude.{◌<◌}
+use borrow.Author.Tests.{lt-ltb}
+use Rattle.legs.specs.LegNumbers.{leg_number}
+use Rattle.poses.proofs.Named.{number_few}
 use Rattle.poses.proofs.object.is_strange.Goals as goal
 
-pub returns-then-leg-lt6 : goal.returns-then-leg-lt6
-returns-then-leg-lt6 c =
-    let a = c.args in
-    where_true (ltb a.leg 6) (has_value (slot_at a.slots a.leg)) true (lt-ltb a.leg 6 c.if-leg-lt6.true)
+pub bounds-slots-number : goal.bounds-slots-number
+bounds-slots-number c = rw c.number.ensures (number_few c.in-Some.leg)
 
-pub returns-else-leg-lt6 : goal.returns-else-leg-lt6
-returns-else-leg-lt6 c = let a =
-    c.args in where_false (ltb a.leg 6) (has_value (slot_at a.slots a.leg)) true (le-ltb a.leg 6 c.if-leg-lt6.false)
+pub returns-in-Some : goal.returns-in-Some
+returns-in-Some c =
+    let few : leg_number c.in-Some.leg < 6 = number_few c.in-Some.leg in
+    rw c.in-Some.is (rw (lt-ltb (leg_number c.in-Some.leg) 6 few) (rw c.number.ensures at c.is_some.ensures))

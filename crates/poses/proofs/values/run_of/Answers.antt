@@ -4,7 +4,7 @@ use mathlib.Core.Path.{sym, ap, ◌∙◌, subst}
 use native.Mathlib.Nat.{pow-le-pow_right, mul-le-mul}
 use native.Mathlib.Numerals.{add-one}
 use native.Mathlib.Omega.{arith}
-use lib.Dec.{lit<, lit≤}
+use lib.Dec.{lit<}
 use borrow.Author.Rules.{rules}
 use borrow.Author.Tests.{not-true, not-false}
 use Rattle.poses.specs.Json.{is_digit}
@@ -47,7 +47,7 @@ settled s from first r few e = (
 )
 
 pub loop-k-init : goal.loop-k-init
-loop-k-init c = (lit≤ tt, c.requires.0, run_begins c.args.first c.args.from c.args.s.now)
+loop-k-init c = (c.requires.0, run_begins c.args.first c.args.from c.args.s.now)
 
 pub overflow_add-from : goal.overflow_add-from
 overflow_add-from c =
@@ -58,7 +58,7 @@ overflow_add-from c =
 
 pub overflow_mul-result : goal.overflow_mul-result
 overflow_mul-result c = record {
-  fits = small c.loop-k.n c.loop-k.k c.power.result c.loop-k.invariant.0 c.loop-k.invariant.1 c.power.ensures;
+  fits = small c.loop-k.n c.loop-k.k c.power.result (omega arith) c.loop-k.invariant.0 c.power.ensures;
 }
 
 pub returns-then-not-is_digit : goal.returns-then-not-is_digit
@@ -67,7 +67,7 @@ returns-then-not-is_digit c =
     let from : ℕ = c.args.from in
     let answered : (r : Run) → r ≡ run_to c.loop-k.k c.loop-k.n (8 - c.loop-k.k) (drop (from + c.loop-k.k) text) →
     (r ≡ run_read c.args.first (drop from text)) × (r.parts < 10 ^ 9) × (r.taken ≤ 8) =
-    λ r e. settled text from c.args.first r c.requires.0 (e ∙ c.loop-k.invariant.2) in
+    λ r e. settled text from c.args.first r c.requires.0 (e ∙ c.loop-k.invariant.1) in
     let k = c.loop-k.k in
     let n = c.loop-k.n in
     let no : is_digit (byte text (from + k)) ≡ false =
@@ -80,7 +80,7 @@ returns-then-not-is_digit c =
 
 pub overflow_mul-n : goal.overflow_mul-n
 overflow_mul-n c =
-    let room : c.loop-k.n < 10 ^ 9 = fewer c.loop-k.n c.loop-k.k c.loop-k.invariant.0 c.loop-k.invariant.1 in
+    let room : c.loop-k.n < 10 ^ 9 = fewer c.loop-k.n c.loop-k.k (omega arith) c.loop-k.invariant.0 in
     search (rules, room)
 
 pub overflow_sub-n : goal.overflow_sub-n
@@ -90,7 +90,7 @@ overflow_sub-n c =
 
 pub overflow_add-n : goal.overflow_add-n
 overflow_add-n c =
-    let room : c.loop-k.n < 10 ^ 9 = fewer c.loop-k.n c.loop-k.k c.loop-k.invariant.0 c.loop-k.invariant.1 in
+    let room : c.loop-k.n < 10 ^ 9 = fewer c.loop-k.n c.loop-k.k (omega arith) c.loop-k.invariant.0 in
     search (rules, room)
 
 pub loop-k-preserved : goal.loop-k-preserved
@@ -102,9 +102,8 @@ loop-k-preserved c =
     let n = c.loop-k.n in
     let b = c.byte_at-b.result in
     let there : is_digit (byte text (from + k)) ≡ true = sym (ap is_digit c.byte_at-b.ensures) ∙ a_digit in (
-      omega arith,
-      subst (λ (j : ℕ). n * 10 + (b - 48) < 10 ^ j) (sym (add-one (k + 1))) (digit_below n (k + 1) b c.loop-k.invariant.1 a_digit),
-      goes_on text from k n b c.loop-k-test.true c.byte_at-b.ensures there ∙ c.loop-k.invariant.2,
+      subst (λ (j : ℕ). n * 10 + (b - 48) < 10 ^ j) (sym (add-one (k + 1))) (digit_below n (k + 1) b c.loop-k.invariant.0 a_digit),
+      goes_on text from k n b (omega arith) c.byte_at-b.ensures there ∙ c.loop-k.invariant.1,
     )
 
 pub returns : goal.returns
@@ -113,7 +112,7 @@ returns c =
     let from : ℕ = c.args.from in
     let answered : (r : Run) → r ≡ run_to c.loop-k.k c.loop-k.n (8 - c.loop-k.k) (drop (from + c.loop-k.k) text) →
     (r ≡ run_read c.args.first (drop from text)) × (r.parts < 10 ^ 9) × (r.taken ≤ 8) =
-    λ r e. settled text from c.args.first r c.requires.0 (e ∙ c.loop-k.invariant.2) in
-    let k : c.loop-k.k ≡ 8 = omega (arith, c.loop-k.invariant.0, c.loop-k-test.false) in
+    λ r e. settled text from c.args.first r c.requires.0 (e ∙ c.loop-k.invariant.1) in
+    let k : c.loop-k.k ≡ 8 = omega arith in
     let rest = drop (from + c.loop-k.k) text in
     answered _ (run_ends c.loop-k.n rest ∙ ap (λ (j : ℕ). run_to j c.loop-k.n (8 - j) rest) (sym k))

@@ -1,5 +1,4 @@
 -- `sines::fixed::both_at` meets its contract: the parts are those of x, and their sums its sine and its cosine.
-use borrow.Author.Rules.{rules}
 use Rattle.std.specs.Prelude.{◌≡◌, ℕ, ◌*◌, ◌≤◌}
 use mathlib.Core.Path.{sym, ap, ◌∙◌, subst}
 use Rattle.sines.specs.How.{sixteen, table_one, sine_entry, cosine_entry, eighths, rest, square, even, odd}

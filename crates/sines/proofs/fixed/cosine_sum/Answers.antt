@@ -1,6 +1,4 @@
 -- `sines::fixed::cosine_sum` meets its contract: no step passes 63 bits, and with the surplus the sum is a natural number.
-use borrow.Author.Rules.{rules}
-use Rattle.std.specs.Prelude.{◌≡◌}
 use lib.Dec.{lit≤}
 use Rattle.sines.specs.How.{rest_one, line_factor}
 use Rattle.sines.proofs.SignedSums.{Held, entry_fits, product_fits, cosine_products, cosine_held, cosine_counts}

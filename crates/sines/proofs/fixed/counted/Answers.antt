@@ -1,5 +1,4 @@
 -- `sines::fixed::counted` meets its contract. The difference lies from -2 ^ 24 to 2 ^ 24, so that an i32 and an f32 hold it.
-use borrow.Author.Rules.{rules}
 use borrow.Author.Tests.{lt-ltb}
 use Rattle.std.specs.Prelude.{◌≡◌, ℕ, suc, ◌+◌, ◌-◌, ◌^◌, ◌<◌, ◌≤◌, T, ℤ, pos, ◌-ℤ◌}
 use mathlib.Core.Path.{sym, ap, ◌∙◌, subst}

@@ -1,5 +1,4 @@
 -- `sines::fixed::entry_of` meets its contract: what the table has at the place.
-use borrow.Author.Rules.{rules}
 use mathlib.Core.Path.{ap₂}
 use Rattle.std.specs.Prelude.{ℕ}
 use Rattle.sines.specs.declared.table.Eighths.{Eighths}

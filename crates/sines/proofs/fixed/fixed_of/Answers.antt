@@ -1,5 +1,4 @@
 -- `sines::fixed::fixed_of` meets its contract. What is shifted stays at most 2 ^ 39, so no digit is lost.
-use borrow.Author.Rules.{rules}
 use mathlib.Core.Path.{sym, subst}
 use Rattle.std.specs.Prelude.{ℕ, ◌≤◌}
 use native.Mathlib.Nat.{mod-eq_of_lt, lt_of_le_of_lt}

@@ -1,5 +1,4 @@
 -- `sines::fixed::odd_part` meets its contract. Each product stays below 2 ^ 64, and what is taken away below what it is taken from.
-use borrow.Author.Rules.{rules}
 use Rattle.std.specs.Prelude.{ℕ, ◌-◌, ◌*◌, ◌/◌, ◌<◌, ◌≤◌}
 use mathlib.Core.Path.{refl}
 use native.Mathlib.Nat.{mul-le-mul, le_of_lt}

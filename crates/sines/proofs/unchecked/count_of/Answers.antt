@@ -1,8 +1,6 @@
 -- `sines::unchecked::count_of` meets its contract, in each of its three cases.
-use borrow.Author.Rules.{rules}
-use Rattle.std.specs.Prelude.{◌≡◌, true, false, T}
+use Rattle.std.specs.Prelude.{◌≡◌, true, T}
 use mathlib.Core.Path.{sym, ◌∙◌, subst}
-use native.Mathlib.Omega.{arith}
 use lib.Dec.{lit≤}
 use lib.Ieee.{binary32, fits}
 use Rattle.numbers.specs.Door.{permits}

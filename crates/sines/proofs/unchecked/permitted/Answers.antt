@@ -1,5 +1,4 @@
 -- `sines::unchecked::permitted` meets its contract: the door's test of the row.
-use borrow.Author.Rules.{rules}
 use Rattle.numbers.specs.Limits.{sine_argument}
 use Rattle.numbers.proofs.OnePass.{tested}
 use Rattle.sines.proofs.unchecked.permitted.Goals as goal

@@ -1,5 +1,4 @@
 -- `sines::unchecked::sine` meets its contract: what the inner function gives where x is permitted, else +0.
-use borrow.Author.Rules.{rules}
 use Rattle.std.specs.Prelude.{◌≡◌, false, T}
 use mathlib.Core.Path.{sym, ◌∙◌, subst}
 use mathlib.Core.Bool.{true≢false}
@@ -8,8 +7,7 @@ use lib.Ieee.Bits.{is_true}
 use Rattle.numbers.specs.Door.{permits}
 use Rattle.numbers.specs.Limits.{sine_argument}
 use Rattle.sines.specs.Bands.{SineOf}
-use Rattle.sines.specs.How.{sine}
-use Rattle.sines.proofs.Sharp.{sine_is, sine_outside}
+use Rattle.sines.proofs.Sharp.{sine_outside}
 use Rattle.sines.proofs.Bands.{sine_band}
 use Rattle.sines.proofs.unchecked.sine.Goals as goal
 
@@ -20,8 +18,7 @@ pub returns-then-permitted : goal.returns-then-permitted
 returns-then-permitted c =
     let held : T (fits binary32 c.args.x) = subst T (sym c.well_formed.0.1) tt in
     let x = c.args.x in
-    let e : c.inside_sine.result ≡ sine x =
-    c.inside_sine.ensures ∙ sine_is x held ((subst T (sym c.if-permitted.true ∙ c.permitted.ensures) tt)) in
+    let e = c.inside_sine.ensures in
     record { exact = e; band = λ (q : T (permits sine_argument x)). subst (SineOf x) (sym e) (sine_band x held q) }
 
 pub returns-else-permitted : goal.returns-else-permitted

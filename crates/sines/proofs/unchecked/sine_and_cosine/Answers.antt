@@ -1,5 +1,4 @@
 -- `sines::unchecked::sine_and_cosine` meets its contract, by its count and what the whole numbers give for that.
-use borrow.Author.Rules.{rules}
 use mathlib.Core.Path.{ap}
 use Rattle.sines.specs.declared.unchecked.Turn.{Turn}
 use Rattle.sines.specs.declared.table.Eighths.{Eighths}

@@ -1,5 +1,4 @@
 -- `sines::unchecked::turned` meets its contract: what the count tells of x decides what its sine and its cosine are.
-use borrow.Author.Rules.{rules}
 use Rattle.std.specs.Prelude.{◌≡◌, ℕ, ◌≤◌, T}
 use mathlib.Core.Path.{sym, ap, ap₂, ◌∙◌, subst}
 use lib.Ieee.{Float, binary32, to_bits, fits, of_bits}

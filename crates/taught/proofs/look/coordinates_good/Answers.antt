@@ -1,9 +1,8 @@
 -- `taught::look::coordinates_good` meets its contract: after i words, whether they all are low.
-use Rattle.std.specs.Prelude.{◌≡◌, ℕ, ◌+◌, ◌-◌, ◌*◌, ◌≤◌, Bool, true, ◌&&◌, List}
+use Rattle.std.specs.Prelude.{◌≡◌, ℕ, ◌+◌, ◌*◌, Bool, true, ◌&&◌, List}
 use mathlib.Core.Path.{refl, sym, ap, ◌∙◌}
 use native.Mathlib.Omega.{arith}
 use native.Mathlib.Numerals.{add-one}
-use borrow.Author.Rules.{rules}
 use Rattle.packed.specs.Packed.{word_at}
 use Rattle.taught.specs.How.{low, words_low}
 use Rattle.taught.proofs.look.coordinates_good.Goals as goal
@@ -21,12 +20,12 @@ goes_on room at i bits good is so one word =
     ∙ ap (λ (n : ℕ). words_low n room at) (sym (add-one i))
 
 pub loop-i-init : goal.loop-i-init
-loop-i-init c = (first _ _, omega arith)
+loop-i-init c = first _ _
 
 pub loop-i-preserved : goal.loop-i-preserved
-loop-i-preserved c = (goes_on _ _ _ _ _ _ c.loop-i.invariant.0 c.is_low-good.ensures c.word_at.ensures, omega arith)
+loop-i-preserved c = goes_on _ _ _ _ _ _ c.loop-i.invariant c.is_low-good.ensures c.word_at.ensures
 
 pub returns : goal.returns
 returns c =
-    let all : c.loop-i.i ≡ 18 = omega arith in c.loop-i.invariant.0 ∙ ap
+    let all : c.loop-i.i ≡ 18 = omega arith in c.loop-i.invariant ∙ ap
     (λ (n : ℕ). words_low n c.args.room.now c.args.at) all

@@ -1,13 +1,11 @@
 -- `taught::look::holds` meets its contract: the id, the marks and the coordinates of the place.
-use Rattle.std.specs.Prelude.{◌≡◌, ℕ, ◌+◌, ◌-◌, Bool, ◌&&◌, ltb, List, drop}
+use Rattle.std.specs.Prelude.{◌≡◌, ℕ, ◌+◌, Bool, ◌&&◌, ltb, List, drop}
 use mathlib.Core.Path.{ap, ◌∙◌}
-use borrow.Author.Rules.{rules}
 use Rattle.packed.specs.Packed.{pair_at}
 use Rattle.taught.specs.Room.{id_of, marks_good, holds}
 use Rattle.taught.specs.How.{words_low}
 use Rattle.taught.proofs.Looking.{id_at}
 use Rattle.taught.proofs.Coordinates.{coordinates_good}
-use borrow.Author.Rules.{rules}
 use Rattle.taught.proofs.look.holds.Goals as goal
 
 all_three : (room : List ℕ) (at last id : ℕ) (marks floats : Bool) → id ≡ pair_at room at → marks ≡ marks_good (drop at room)

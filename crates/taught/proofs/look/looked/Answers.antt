@@ -1,9 +1,11 @@
 -- `taught::look::looked` meets its contract: 5,120 bytes, places in front, zeros behind them, and where the id stands.
-use Rattle.std.specs.Prelude.{◌≡◌, ℕ, ◌≤◌}
-use mathlib.Core.Path.{sym, ◌∙◌, subst}
+use Rattle.std.specs.Prelude.{◌≡◌, ℕ, ◌*◌, ◌≤◌, length}
+use mathlib.Core.Path.{sym, ap, ◌∙◌, subst}
+use Rattle.std.proofs.lemmas.List.{take_rest}
+use native.Mathlib.Omega.{arith}
 use borrow.Author.Rules.{rules}
 use borrow.Author.Tests.{not-true, not-false}
-use Rattle.taught.specs.Room.{most, used}
+use Rattle.taught.specs.Room.{most, used, all_zero}
 use Rattle.taught.proofs.Calls.{seen_short, seen_bad, seen_good, used_few}
 use borrow.Author.Rules.{rules}
 use Rattle.std.proofs.lemmas.Bool.{not_from_false, not_from_true}
@@ -14,25 +16,39 @@ few n room e = subst (λ (k : ℕ). k ≤ most) (sym e) (used_few room)
 
 pub returns-then-room-ne5120 : goal.returns-then-room-ne5120
 returns-then-room-ne5120 c =
-    c.nothing.ensures ∙ seen_short c.args.room.now c.args.id
+    seen_short c.args.room.now c.args.id
     c.if-room-ne5120.true
 
-pub overflow_mul-n : goal.overflow_mul-n
-overflow_mul-n c = let h : c.used-n.result ≤ most = few _ _ c.used-n.ensures in search (rules, h)
+pub overflow_mul-used : goal.overflow_mul-used
+overflow_mul-used c = let h : c.used-used.result ≤ most = few _ _ c.used-used.ensures in search (rules, h)
+
+pub slice_bounds-all_zero-start : goal.slice_bounds-all_zero-start
+slice_bounds-all_zero-start c =
+    let h : c.used-used.result ≤ most = few _ _ c.used-used.ensures in
+    let long : length c.args.room.now ≡ 5120 = c.if-room-ne5120.false in
+    omega (arith, h, long)
+
+pub slice_bounds-all_zero-count : goal.slice_bounds-all_zero-count
+slice_bounds-all_zero-count c =
+    let h : c.used-used.result ≤ most = few _ _ c.used-used.ensures in
+    let long : length c.args.room.now ≡ 5120 = c.if-room-ne5120.false in
+    omega (arith, h, long)
 
 pub returns-then-not-all_zero : goal.returns-then-not-all_zero
 returns-then-not-all_zero c =
-    c.nothing-then-not-all_zero.ensures ∙ seen_bad c.args.room.now c.args.id _ _ c.if-room-ne5120.false c.used-n.ensures
-    c.all_zero.ensures (not-true _ (not_from_false _ c.if-not-all_zero.true))
+    seen_bad c.args.room.now c.args.id _ _ c.if-room-ne5120.false c.used-used.ensures
+    (c.all_zero.ensures ∙ ap all_zero (take_rest c.args.room.now (80 * c.used-used.result)))
+    (not-true _ (not_from_false _ c.if-not-all_zero.true))
 
 pub place_of-place-requires : goal.place_of-place-requires
-place_of-place-requires c = (few _ _ c.used-n.ensures, c.if-room-ne5120.false)
+place_of-place-requires c = (few _ _ c.used-used.ensures, c.if-room-ne5120.false)
 
-pub is_at-requires : goal.is_at-requires
-is_at-requires c = (few _ _ c.used-n.ensures, c.if-room-ne5120.false)
+pub is_at-there-requires : goal.is_at-there-requires
+is_at-there-requires c = (few _ _ c.used-used.ensures, c.if-room-ne5120.false)
 
 pub returns : goal.returns
 returns c =
-    seen_good c.args.room.now c.args.id _ _ _ _ c.if-room-ne5120.false c.used-n.ensures
-    c.all_zero.ensures (not-false _ (not_from_true _ c.if-not-all_zero.false)) c.place_of-place.ensures
-    c.is_at.ensures
+    seen_good c.args.room.now c.args.id _ _ _ _ c.if-room-ne5120.false c.used-used.ensures
+    (c.all_zero.ensures ∙ ap all_zero (take_rest c.args.room.now (80 * c.used-used.result)))
+    (not-false _ (not_from_true _ c.if-not-all_zero.false)) c.place_of-place.ensures
+    c.is_at-there.ensures

@@ -1,9 +1,6 @@
 -- `taught::look::marks_good` meets its contract: six bytes of the place.
-use Rattle.std.specs.Prelude.{◌-◌}
 use lib.Seq.{get_or-drop}
-use borrow.Author.Rules.{rules}
 use Rattle.taught.specs.Room.{marks_good}
-use borrow.Author.Rules.{rules}
 use Rattle.taught.proofs.look.marks_good.Goals as goal
 
 pub returns : goal.returns

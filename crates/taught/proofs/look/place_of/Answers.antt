@@ -4,7 +4,6 @@ use mathlib.Core.Path.{sym, ap, ◌∙◌}
 use native.Mathlib.Nat.{zero-add}
 use native.Mathlib.Omega.{arith}
 use native.Mathlib.Numerals.{add-one}
-use borrow.Author.Rules.{rules}
 use borrow.Author.Tests.{le-ltb, lt-ltb}
 use Rattle.packed.specs.Packed.{pair_at}
 use Rattle.taught.specs.Room.{place_from}
@@ -30,15 +29,15 @@ ends : (room : List ℕ) (n k id : ℕ) → k ≡ n → n ≡ k + place_from (n 
 ends room n k id e = place_ends n id (drop (80 * k) room) ∙ ap (λ (j : ℕ). j + place_from (n - j) id (drop (80 * k) room)) (sym e)
 
 pub loop-k-init : goal.loop-k-init
-loop-k-init c = (begins _ _ _, omega arith)
+loop-k-init c = begins _ _ _
 
 pub returns-then-id-pair_at : goal.returns-then-id-pair_at
 returns-then-id-pair_at c =
-    stops _ _ _ _ _ c.loop-k-test.true c.pair_at.ensures c.if-id-pair_at.true ∙
-    c.loop-k.invariant.0
+    stops _ _ _ _ _ (omega arith) c.pair_at.ensures c.if-id-pair_at.true ∙
+    c.loop-k.invariant
 
 pub loop-k-preserved : goal.loop-k-preserved
-loop-k-preserved c = (goes_on _ _ _ _ _ c.loop-k-test.true c.pair_at.ensures (omega arith) ∙ c.loop-k.invariant.0, omega arith)
+loop-k-preserved c = goes_on _ _ _ _ _ (omega arith) c.pair_at.ensures (omega arith) ∙ c.loop-k.invariant
 
 pub returns : goal.returns
-returns c = ends _ _ _ _ (omega arith) ∙ c.loop-k.invariant.0
+returns c = ends _ _ _ _ (omega arith) ∙ c.loop-k.invariant

@@ -1,10 +1,9 @@
 -- `taught::look::used` meets its contract: the places behind us and those before us come to the same all along.
-use Rattle.std.specs.Prelude.{◌≡◌, ℕ, suc, ◌+◌, ◌-◌, ◌*◌, ◌<◌, ◌≤◌, true, List, drop}
+use Rattle.std.specs.Prelude.{◌≡◌, ℕ, suc, ◌+◌, ◌-◌, ◌*◌, ◌<◌, true, List, drop}
 use mathlib.Core.Path.{sym, ap, ◌∙◌}
 use native.Mathlib.Nat.{zero-add}
 use native.Mathlib.Omega.{arith}
 use native.Mathlib.Numerals.{add-one}
-use borrow.Author.Rules.{rules}
 use borrow.Author.Tests.{not-true, not-false}
 use Rattle.packed.specs.Packed.{pair_at}
 use Rattle.taught.specs.Room.{behind, holds, used_from, used, most}
@@ -29,17 +28,17 @@ ends room n last e =
     used_ends most last (drop (80 * n) room) ∙ ap (λ (j : ℕ). j + used_from (most - j) last (drop (80 * n) room)) (sym e)
 
 pub loop-n-init : goal.loop-n-init
-loop-n-init c = (begins c.args.room.now, omega arith)
+loop-n-init c = begins c.args.room.now
 
 pub returns-then-not-holds : goal.returns-then-not-holds
 returns-then-not-holds c =
-    used_stops most _ _ _ c.loop-n-test.true (sym c.holds.ensures ∙ not-true _ (not_from_false _ c.if-not-holds.true)) ∙
-    c.loop-n.invariant.0
+    used_stops most _ _ _ (omega arith) (sym c.holds.ensures ∙ not-true _ (not_from_false _ c.if-not-holds.true)) ∙
+    c.loop-n.invariant
 
 pub loop-n-preserved : goal.loop-n-preserved
 loop-n-preserved c =
     let there = sym c.holds.ensures ∙ not-false _ (not_from_true _ c.if-not-holds.false) in
-    (goes_on _ _ _ _ c.loop-n-test.true there c.pair_at-last.ensures ∙ c.loop-n.invariant.0, omega arith)
+    goes_on _ _ _ _ (omega arith) there c.pair_at-last.ensures ∙ c.loop-n.invariant
 
 pub returns : goal.returns
-returns c = ends _ _ _ (omega arith) ∙ c.loop-n.invariant.0
+returns c = ends _ _ _ (omega arith) ∙ c.loop-n.invariant

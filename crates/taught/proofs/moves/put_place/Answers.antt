@@ -1,11 +1,9 @@
 -- `taught::moves::put_place` meets its contract: the pose behind the id.
 use mathlib.Core.Path.{ap, ◌∙◌}
-use Rattle.std.specs.Prelude.{ℕ, ◌+◌, ◌-◌, List}
-use borrow.Author.Rules.{rules}
+use Rattle.std.specs.Prelude.{ℕ, ◌+◌, List}
 use lib.Seq.{sets}
 use Rattle.numbers.proofs.Stores.{stores_append}
 use Rattle.packed.specs.Packed.{pair_bytes, feet_bytes}
-use borrow.Author.Rules.{rules}
 use Rattle.taught.proofs.moves.put_place.Goals as goal
 
 pub returns : goal.returns

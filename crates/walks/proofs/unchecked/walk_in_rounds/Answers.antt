@@ -6,8 +6,8 @@ use native.Mathlib.Omega.{arith}
 use borrow.Author.Rules.{rules}
 use lib.Ieee.{Float}
 use Rattle.legs.specs.Legs.{point, points, lifted, every, marked}
-use Rattle.legs.specs.declared.Points.{Points}
-use Rattle.legs.specs.declared.Feet.{Feet}
+use Rattle.legs.specs.Legs.{Points}
+use Rattle.legs.specs.Legs.{Feet}
 use Rattle.moves.specs.Distance.{same}
 use Rattle.walks.specs.Walk.{WalkFeet}
 use Rattle.walks.specs.How.{strides}

@@ -1,5 +1,4 @@
 -- `wholes::table::entry` meets its contract: the constant is the table that the test of Rule has passed.
-use borrow.Author.Rules.{rules}
 use Rattle.wholes.proofs.Listed.{table}
 use Rattle.wholes.proofs.Rule.{entry_at, at_most_scale}
 use Rattle.wholes.proofs.table.entry.Goals as goal
