@@ -2,9 +2,11 @@
 use mathlib.Core.Path.{◌≡◌, refl, ap, ◌∙◌, sym, subst}
 use mathlib.Core.Bool.{Bool, true, false, ◌&&◌, false≢true}
 use mathlib.Core.List.{List, [], ◌∷◌}
-use Prim.Native.Nat.{ℕ}
+use Prim.Native.Nat.{ℕ, suc, ◌+◌, ◌≤◌, ◌<◌}
+use native.Mathlib.Numerals.{add-one}
 use lib.Dec.{eqb}
-use lib.ListN.{get_or}
+use lib.ListN.{length, get_or, drop, drop_of_length-le}
+use lib.Seq.{drop-cons}
 use borrow.Author.Tests.{eqb-true, eq-eqb}
 use Rattle.numbers.specs.Told.{choose}
 use Rattle.numbers.proofs.OnePass.{and_left, and_right}
@@ -73,6 +75,33 @@ pub same_itself : (s : List ℕ) → same_bytes s s ≡ true
 unfolding same_bytes
 same_itself [] = refl
 same_itself (b ∷ s) = rw (eq-eqb b b refl) (same_itself s)
+
+-- the test, byte by byte from the left: what is seen so far, and what is left
+pub same_step : (a b : List ℕ) (i : ℕ) (t : Bool) → i < length a → i < length b
+    → (t && same_bytes (drop i a) (drop i b)) ≡ (t && eqb (get_or a i 0) (get_or b i 0) && same_bytes (drop (i + 1) a) (drop (i + 1) b))
+unfolding same_bytes
+same_step a b i t h g =
+    rw (add-one i, drop-cons a i 0 h, drop-cons b i 0 g)
+    (regroup t (eqb (get_or a i 0) (get_or b i 0)) (same_bytes (drop (suc i) a) (drop (suc i) b)))
+  where
+    regroup : (x y z : Bool) → (x && (y && z)) ≡ (x && y && z)
+    regroup true y z = refl
+    regroup false y z = refl
+
+pub same_end : (a b : List ℕ) (i : ℕ) (t : Bool) → length a ≤ i → length b ≤ i → (t && same_bytes (drop i a) (drop i b)) ≡ t
+unfolding same_bytes
+same_end a b i t h g = rw (drop_of_length-le a h, drop_of_length-le b g) (with_true t)
+  where
+    with_true : (x : Bool) → (x && true) ≡ x
+    with_true true = refl
+    with_true false = refl
+
+pub other_length : (a b : List ℕ) → (length a ≡ length b → ⊥) → same_bytes a b ≡ false
+other_length a b apart = by_flag (same_bytes a b) refl
+  where
+    by_flag : (t : Bool) → same_bytes a b ≡ t → t ≡ false
+    by_flag true e = absurd (apart (ap length (same_is_equal a b e)))
+    by_flag false e = refl
 
 -- a test on values that holds exactly where they are equal is the test on bytes
 module _ (l m : Line) (d : Listable 9 l) (e : Listable 9 m) where

@@ -4,16 +4,18 @@ use mathlib.Core.Path.{◌≡◌, refl, ap, ◌∙◌, sym}
 use mathlib.Core.Bool.{Bool, true, false, ◌||◌}
 use mathlib.Core.List.{List, [], ◌∷◌, ◌++◌, map, append_assoc, append-nil}
 use mathlib.Core.Logic.{◌⊎◌, inl, inr, ⊎_elim}
-use Prim.Native.Nat.{ℕ, zero, suc, ◌+◌, ◌≤◌, ◌<◌}
+use Prim.Native.Nat.{ℕ, zero, suc, ◌+◌, ◌≤◌, ◌<◌, min}
 use native.Mathlib.Omega.{arith}
 use lib.Dec.{eqb, leb, ltb}
-use lib.ListN.{length-take, length, take, drop, length-append}
+use native.Mathlib.Numerals.{add-one}
+use lib.ListN.{length, get_or, take, drop, set, length-append, length-take}
+use lib.Seq.{take_all, take-suc, take-suc-set}
 use borrow.Author.Tests.{ne_eqb, le-leb, lt-leb, lt-ltb, leb-true, leb-false, eqb-true, ltb-false}
 use Rattle.numbers.specs.Told.{choose}
 use Rattle.lines.specs.Fields.{newline, span}
 use Rattle.std.specs.Prelude.{◌==◌, not}
-use Rattle.lines.specs.declared.carry.Carry.{Carry}
-use Rattle.lines.specs.declared.carry.Carry.TheVariants.{Whole, Overlong}
+use Rattle.lines.specs.declared.carry.Carry.TheVariants.{Whole}
+use Rattle.lines.specs.declared.front.Front.{Front}
 use Rattle.lines.specs.Carry.{held, Held, fresh, too_long, has_begun, keep, Lines, line, lines_from, Run, ran, run_from}
 
 by_flag : (n : ℕ) (t : Bool) → leb n 128 ≡ t → (n ≤ 128) ⊎ (128 < n)
@@ -40,6 +42,31 @@ module _ (h : Held) (s : List ℕ) where
   pub keep_short : h.overlong ≡ false → length h.text + length s ≤ 128 → keep h s ≡ record { overlong = false; text = h.text ++ s }
   unfolding keep
   keep_short e few = rw (e, le-leb (length h.text + length s) 128 few)
+
+-- a row of 128 bytes has no more than 128
+module _ (row : List ℕ) (len n : ℕ) (full : length row ≡ 128) (is : n ≡ min len 128) where
+  pub take_kept : take len row ≡ take n row
+  take_kept =
+      ⊎_elim (λ (few : len ≤ 128). let e : len ≡ n = omega arith in ap (λ (k : ℕ). take k row) e)
+      (λ (many : 128 < len). take_all len row (omega arith) ∙ sym (take_all n row (omega arith)))
+      (short_or_long len)
+
+  pub length_kept : length (take len row) ≡ n
+  length_kept = length-take len row ∙ omega arith
+
+-- one byte more behind those that are kept
+pub copied_more : (row row₀ s : List ℕ) (n i : ℕ) → n + i < length row → i < length s → take (n + i) row ≡ take n row₀ ++ take i s
+    → take (n + (i + 1)) (set row (n + i) (get_or s i 0)) ≡ take n row₀ ++ take (i + 1) s
+copied_more row row₀ s n i room more was =
+    let e : n + (i + 1) ≡ suc (n + i) = omega arith in
+    rw (
+      e,
+      add-one i,
+      take-suc-set row (n + i) (get_or s i 0) room,
+      take-suc s i 0 more,
+      was,
+      append_assoc (take n row₀) (take i s) (get_or s i 0 ∷ []),
+    )
 
 -- one line, in two parts
 module _ (t a b : List ℕ) where
@@ -218,6 +245,5 @@ begun_kept b l = by_length (leb (0 + suc (length l)) 128)
     by_length false = refl
 
 -- no more than 128 bytes are kept
-pub held_short : (c : Carry) → length (held c).text ≤ 128
-held_short (Whole front) = let few : front.len ≤ 128 = front.fits in omega (arith, length-take front.len front.bytes)
-held_short Overlong = omega arith
+pub held_short : (front : Front) → length front.bytes ≡ 128 → length (held (Whole front)).text ≤ 128
+held_short front full = omega (arith, length-take front.len front.bytes)

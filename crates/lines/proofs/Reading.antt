@@ -37,6 +37,11 @@ module _ (s : List ℕ) (i : ℕ) (h : i < length s) where
   unfolding span
   span_step sep n = ap (span sep) from_on ∙ simp (ne_eqb _ sep n, add-one)
 
+  -- one byte of a word
+  pub spells_step : (t : Bool) (text : List ℕ) → spells t i (drop i s) text ≡ spells (t && eqb (get_or text i 0) (get_or s i 0)) (i + 1)
+      (drop (i + 1) s) text
+  spells_step t text = ap (λ (ws : List ℕ). spells t i ws text) from_on ∙ rw (add-one i)
+
 pub span_end : (s : List ℕ) (i : ℕ) → length s ≤ i → (sep : ℕ) → span sep (drop i s) ≡ 0
 unfolding span
 span_end s i h sep = ap (span sep) (drop_of_length-le s h)
@@ -191,6 +196,33 @@ pub number_known : (base : ℕ) (s : List ℕ) (i v : ℕ) → length s ≤ i �
     → Some v ≡ number (read_in base s)
 number_known base s i v end so_far = ap number (sym (read_end s i end base (known v)) ∙ so_far)
 
+-- where all bytes are hex digits, so are the next two
+started_good : (base : ℕ) (a : Digits) (s : List ℕ) → (push_all base a s).good ≡ true → a.good ≡ true
+unfolding push_all push
+started_good base a [] h = h
+started_good base a (b ∷ s) h = and_left a.good (ltb (value_of b) base) (started_good base (push base a b) s h)
+
+known_next : (s : List ℕ) (i v : ℕ) → i < length s → (read_in 16 s).good ≡ true → push_all 16 (known v) (drop i s) ≡ read_in 16 s
+    → (value_of (get_or s i 0) < 16) × (push_all 16 (known (v * 16 + value_of (get_or s i 0) % 16)) (drop (i + 1) s) ≡ read_in 16 s)
+unfolding push
+known_next s i v h good so_far =
+    let b = get_or s i 0 in
+    let next : push_all 16 (push 16 (known v) b) (drop (i + 1) s) ≡ read_in 16 s = sym (read_step s i h 16 (known v)) ∙ so_far in
+    let digit : ltb (value_of b) 16 ≡ true =
+    started_good 16 (push 16 (known v) b) (drop (i + 1) s) (ap (λ (d : Digits). d.good) next ∙ good) in (
+      ltb-true (value_of b) 16 digit,
+      ap (λ (t : Bool). push_all 16 (record { good = t; value = v * 16 + value_of b % 16 }) (drop (i + 1) s)) (sym digit) ∙ next,
+    )
+
+pub known_two : (s : List ℕ) (i v : ℕ) → i + 1 < length s → (read_in 16 s).good ≡ true → push_all 16 (known v) (drop i s) ≡ read_in 16 s
+    → (value_of (get_or s i 0) < 16) × (value_of (get_or s (i + 1) 0) < 16)
+    × (push_all 16 (known ((v * 16 + value_of (get_or s i 0) % 16) * 16 + value_of (get_or s (i + 1) 0) % 16)) (drop (i + 1 + 1) s)
+    ≡ read_in 16 s)
+known_two s i v h good so_far =
+    let one = known_next s i v (omega arith) good so_far in
+    let two = known_next s (i + 1) (v * 16 + value_of (get_or s i 0) % 16) h good one.1 in
+    (one.0, two.0, two.1)
+
 -- k digits of a base of at most sixteen stay below 16 ^ k
 pub push_below : (base : ℕ) (a : Digits) (b k : ℕ) → base ≤ 16 → a.value < 16 ^ k → (push base a b).value < 16 ^ (k + 1)
 unfolding push
@@ -204,6 +236,17 @@ pub room : (v k : ℕ) → v < 16 ^ k → k < 16 → v < 2 ^ 60
 room v k below few =
     let m : 16 ^ k ≤ 16 ^ 15 = pow-le-pow_right (lit< tt) {i = k} {j = 15} (omega arith) in
     omega arith
+
+-- a number with room for two more
+pub room_for_two : (v k : ℕ) → v < 16 ^ k → k ≤ 14 → v < 2 ^ 56
+room_for_two v k below few =
+    let m : 16 ^ k ≤ 16 ^ 14 = pow-le-pow_right (lit< tt) {i = k} {j = 14} few in
+    omega arith
+
+pub two_below : (v a b k : ℕ) → v < 16 ^ k → (v * 16 + value_of a % 16) * 16 + value_of b % 16 < 16 ^ (k + 1 + 1)
+unfolding push
+two_below v a b k below =
+    push_below 16 (known (v * 16 + value_of a % 16)) b (k + 1) (lit≤ tt) (push_below 16 (known v) a k (lit≤ tt) below)
 
 pub read_below : (base : ℕ) (s : List ℕ) (a : Digits) (k : ℕ) → base ≤ 16 → a.value < 16 ^ k
     → (push_all base a s).value < 16 ^ (k + length s)

@@ -7,8 +7,10 @@ use mathlib.Core.Logic.{⊎_elim}
 use Prim.Native.Nat.{ℕ, ◌+◌, ◌-◌, ◌*◌, ◌/◌, ◌%◌, ◌≤◌, ◌<◌}
 use native.Mathlib.Omega.{arith}
 use lib.Dec.{leb, ltb}
+use lib.ListN.{get_or}
 use borrow.Author.Tests.{lt-ltb, le-ltb, le-leb, lt-leb, leb-true, ltb-true, ltb-false}
 use Rattle.std.specs.Prelude.{Option, Some, None}
+use Rattle.std.proofs.lemmas.List.FromFn.{get_or-map-range_with_len}
 use Rattle.numbers.specs.Told.{choose}
 use Rattle.lines.specs.Digits.{digit, value_of, digit_value}
 use Rattle.numbers.proofs.OnePass.{and_left, and_right}
@@ -43,6 +45,14 @@ digit_of_value b =
     let low : 97 ≤ b = leb-true 97 b (and_left (leb 97 b) (leb b 102) e') in
     simp (le-ltb (b - 87) 10 (omega arith)) (omega arith))
     (λ e' h. absurd (omega arith)))
+
+-- the digits in their order
+abbrev pub all_digits : List ℕ
+all_digits = 48 ∷ 49 ∷ 50 ∷ 51 ∷ 52 ∷ 53 ∷ 54 ∷ 55 ∷ 56 ∷ 57 ∷ 97 ∷ 98 ∷ 99 ∷ 100 ∷ 101 ∷ 102 ∷ []
+
+pub digits_in_order : (k : ℕ) → k < 16 → get_or all_digits k 0 ≡ digit k
+unfolding digit
+digits_in_order k h = get_or-map-range_with_len digit 0 16 k k 0 h (omega arith)
 
 -- a byte that is no digit has no value, and one that is has its own
 pub no_digit : (b : ℕ) → digit_value b ≡ None → 16 ≤ value_of b

@@ -1,6 +1,6 @@
 // A line that is cut between two reads. At most 128 bytes of it are kept: no record and no line of a listing is longer, so that a longer
 // line is only known to be too long.
-ghost use Rattle.std.specs.Prelude.{◌≡◌};
+ghost use Rattle.std.specs.Prelude.{◌≡◌, min};
 ghost use Rattle.lines.specs.Carry.{held, keep, fresh, has_begun};
 
 pub use crate::front::Front;
@@ -19,6 +19,13 @@ pub fn empty() -> Carry
     ensures { held result ≡ fresh }
 {
     Carry::Whole(Front::empty())
+}
+
+/// How many bytes are kept.
+pub fn kept(len: usize) -> usize
+    ensures { result ≡ min len 128 }
+{
+    len.min(128)
 }
 
 /// The unfinished line and some bytes more.

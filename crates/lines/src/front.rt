@@ -1,14 +1,15 @@
 // The first bytes of a line, in a row of fixed size.
 ghost use Rattle.std.specs.Prelude.{◌≡◌, ◌+◌, ◌<◌, ◌≤◌, ◌++◌, [], length, take, MatchOption, ◌==◌};
 
-/// The first bytes of a line, at most 128.
+use crate::carry::kept;
+
+/// The first bytes of a line, at most 128: the first `len` of the row, or all of it where `len` is above 128.
 // Kept: a row with a length beside it: no heap, and what is kept of a line is copied with the printer, which a library vector of fixed
-// size cannot be. The ghost field says that the length fits.
+// size cannot be. Each row with each length is one, so that a host may keep it, take it apart and build it again.
 #[derive(Clone, Copy)]
 pub struct Front {
-    bytes: [u8; 128],
-    len: usize,
-    ghost fits: { len ≤ 128 },
+    pub bytes: [u8; 128],
+    pub len: usize,
 }
 
 impl Front {
@@ -33,7 +34,7 @@ impl Front {
     pub fn as_slice(&self) -> &[u8]
         ensures { result.now ≡ take self.now.len self.now.bytes }
     {
-        &self.bytes[..self.len]
+        &self.bytes[..kept(self.len)]
     }
 
     /// These bytes and some more, `None` where they are more than 128.
@@ -42,7 +43,7 @@ impl Front {
             (λ r. (take r.len r.bytes ≡ take self.len self.bytes ++ s.now)
             × (length (take self.len self.bytes) + length s.now ≤ 128)) }
     {
-        let from = self.len;
+        let from = kept(self.len);
         if 128 - from < s.len() {
             return None;
         }

@@ -8,16 +8,10 @@ ghost use Rattle.numbers.specs.Stored.{Stored};
 ghost use Rattle.lines.specs.Lines.{walk_word};
 
 // The byte of a number's lowest hex digit.
-#[tactic(auto, unfolding(crate::specs::Digits::digit))]
 fn digit(n: u64) -> u8
     ensures { result ≡ digit (n % 16) }
 {
-    let low = (n % 16) as u8;
-    if low < 10 {
-        b'0' + low
-    } else {
-        b'a' - 10 + low
-    }
+    b"0123456789abcdef"[(n % 16) as usize]
 }
 
 // A letter and a tab.

@@ -38,18 +38,21 @@ asked_lines s = ap (λ (r : Run). map asks r.finished) (run_lines s) ∙ asks_ea
 pub asked_last : (s : List ℕ) → asks (run_from fresh s).begun ≡ record_of (lines_from [] s).begun
 asked_last s = ap (λ (r : Run). asks r.begun) (run_lines s) ∙ asks_whole (lines_from [] s).begun
 
--- what is kept asks for the same with no byte more
-asks_kept_by : (o : Bool) (t : List ℕ) → length t ≤ 128
+-- what is kept asks for the same with no byte more, however much that is
+asks_kept_by : (o : Bool) (t : List ℕ)
     → asks (keep (record { overlong = o; text = t }) []) ≡ asks (record { overlong = o; text = t })
-unfolding asks keep
-asks_kept_by true t short = refl
-asks_kept_by false t short = rw (le-leb (length t + 0) 128 (omega arith)) (ap record_of (append-nil t))
+unfolding asks keep record_of
+asks_kept_by true t = refl
+asks_kept_by false t =
+    ⊎_elim (λ (few : length t ≤ 128). rw (le-leb (length t + 0) 128 (omega arith)) (ap record_of (append-nil t)))
+    (λ (many : 128 < length t). rw (lt-leb (length t + 0) 128 (omega arith), ne_eqb (length t) 64 (λ e. omega arith)))
+    (short_or_long (length t))
 
 -- a line and its newline: one line is asked for, and no other has begun
-pub line_asks : (l : List ℕ) (h : Held) → span newline l ≡ length l → length h.text ≤ 128
+pub line_asks : (l : List ℕ) (h : Held) → span newline l ≡ length l
     → (map asks (run_from h (l ++ (newline ∷ []))).finished ≡ asks (keep h l) ∷ []) × ((run_from h (l ++ (newline ∷ []))).begun ≡ fresh)
 unfolding run_from
-line_asks [] h free short = (ap (λ (a : Option Record). a ∷ []) (sym (asks_kept_by h.overlong h.text short)), refl)
-line_asks (x ∷ l) h free short =
+line_asks [] h free = (ap (λ (a : Option Record). a ∷ []) (sym (asks_kept_by h.overlong h.text)), refl)
+line_asks (x ∷ l) h free =
     let run = run_some x l (newline ∷ []) h free in
     (ap (λ (r : Run). map asks r.finished) run, ap (λ (r : Run). r.begun) run)

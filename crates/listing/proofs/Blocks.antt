@@ -5,7 +5,7 @@ use mathlib.Core.Bool.{false≢true}
 use mathlib.Core.List.{append_assoc, append-nil}
 use native.Mathlib.Omega.{arith}
 use native.Mathlib.Numerals.{add-one}
-use lib.Ieee.{Float}
+use lib.Ieee.{Float, binary32, of_bits, eq}
 use lib.Ieee.Bits.{is_true, is_false}
 use borrow.Author.Tests.{ltb-true, ltb-false, leb-true, leb-false}
 use Rattle.legs.specs.declared.Point.{Point}
@@ -21,7 +21,7 @@ use Rattle.lines.specs.Lines.{written, has_room}
 use Rattle.lines.specs.declared.listed.Line.TheVariants.{Arrived, Refused}
 use Rattle.numbers.proofs.Stores.{stored_more, stored_as, stored_nothing, stored_length}
 use Rattle.listing.specs.Listing.{step, steps, WalkPrints}
-use Rattle.listing.specs.Block.{most_steps, moves_on, left, text_of, is_done, lines_left, Part, IsNext}
+use Rattle.listing.specs.Block.{end_line, most_steps, moves_on, left, text_of, is_done, lines_left, Part, IsNext}
 use Rattle.listing.specs.declared.block.Rest.{Rest}
 use Rattle.listing.specs.declared.block.Rest.TheVariants.{Walking, Refusing, Done}
 use Rattle.listing.specs.declared.block.Next.{Next}
@@ -42,26 +42,35 @@ is_fit true b e = cc
 is_fit false b e = e
 
 -- at the target, and where no step may follow, the last line is left
-at_target : (m : Float) (t : Point) (k d : ℕ) (l : Point) → same l t ≡ true → left m t k d l ≡ written (Arrived k)
+at_target : (m : Float) (t : Point) (refused k d : ℕ) (l : Point) → same l t ≡ true → left m t refused k d l ≡ written (end_line k refused)
 unfolding left
-at_target m t k zero l e = refl
-at_target m t k (suc d) l e = rw e
+at_target m t refused k zero l e = refl
+at_target m t refused k (suc d) l e = rw e
+
+-- so where nothing is to be gone
+abbrev nowhere : Point
+nowhere = record { x = of_bits binary32 0; y = of_bits binary32 0; z = of_bits binary32 0 }
+
+pub nowhere_left : (refused d : ℕ) → left (of_bits binary32 0) nowhere refused 0 d nowhere ≡ written (end_line 0 refused)
+unfolding same eq of_bits
+nowhere_left refused d = at_target (of_bits binary32 0) nowhere refused 0 d nowhere refl
 
 -- elsewhere the line of the next step comes first
-elsewhere : (m : Float) (t : Point) (k d : ℕ) (l : Point) → same l t ≡ false
-    → left m t k (suc d) l ≡ written (step (k + 1) (point_of (move_towards l t m))) ++ left m t (k + 1) d (point_of (move_towards l t m))
+elsewhere : (m : Float) (t : Point) (refused k d : ℕ) (l : Point) → same l t ≡ false
+    → left m t refused k (suc d) l ≡ written (step (k + 1) (point_of (move_towards l t m))) ++ left m t refused (k + 1) d
+    (point_of (move_towards l t m))
 unfolding left
-elsewhere m t k d l e = rw e
+elsewhere m t refused k d l e = rw e
 
 -- what is left after j of the n steps of a walk from s: the lines of the i steps after them, and the last line
 module _ (m : Float) (s t : Point) (n : ℕ) (w : Walk m s t n) where
-  at_end : (j d : ℕ) → j ≡ n → left m t j d (point_after m s t j) ≡ written (Arrived n)
+  at_end : (j d : ℕ) → j ≡ n → left m t 0 j d (point_after m s t j) ≡ written (Arrived n)
   at_end j d e =
-      at_target m t j d (point_after m s t j)
+      at_target m t 0 j d (point_after m s t j)
       (is_true (same (point_after m s t j) t) (subst (λ (k : ℕ). T (same (point_after m s t k) t)) (sym e) w.arrives))
       ∙ ap (λ (k : ℕ). written (Arrived k)) e
 
-  left_walk : (i j d : ℕ) → j + i ≡ n → i ≤ d → left m t j d (point_after m s t j) ≡ steps m s t j i ++ written (Arrived n)
+  left_walk : (i j d : ℕ) → j + i ≡ n → i ≤ d → left m t 0 j d (point_after m s t j) ≡ steps m s t j i ++ written (Arrived n)
   unfolding steps point_after
   left_walk zero j d e h = at_end j d (none e)
     where
@@ -76,13 +85,13 @@ module _ (m : Float) (s t : Point) (n : ℕ) (w : Walk m s t n) where
       let here : j < n = omega arith in
       let there : suc j + i ≡ n = omega arith in
       let fewer : i ≤ d = omega arith in
-      elsewhere m t j d (point_after m s t j) (is_false (same (point_after m s t j) t) (w.least j here))
-      ∙ ap (λ (k : ℕ). written (step k p) ++ left m t k d p) (add-one j)
+      elsewhere m t 0 j d (point_after m s t j) (is_false (same (point_after m s t j) t) (w.least j here))
+      ∙ ap (λ (k : ℕ). written (step k p) ++ left m t 0 k d p) (add-one j)
       ∙ ap (λ (r : List ℕ). written (step (suc j) p) ++ r) (left_walk i (suc j) d there fewer)
       ∙ sym (append_assoc (written (step (suc j) p)) (steps m s t (suc j) i) (written (Arrived n)))
 
   -- from the start
-  walk_left : n ≤ most_steps → left m t 0 (most_steps - 0) s ≡ steps m s t 0 n ++ written (Arrived n)
+  walk_left : n ≤ most_steps → left m t 0 0 (most_steps - 0) s ≡ steps m s t 0 n ++ written (Arrived n)
   unfolding point_after
   walk_left h =
       let all : 0 + n ≡ n = omega arith in
@@ -95,7 +104,10 @@ module _ (w : Way) where
   next_place = point_of (move_towards w.last w.target w.max_move)
 
   abbrev pub stepped : Way
-  stepped = record { max_move = w.max_move; last = next_place; target = w.target; made = w.made + 1 }
+  stepped = record { max_move = w.max_move; last = next_place; target = w.target; made = w.made + 1; refused = w.refused }
+
+  abbrev here : ℕ → List ℕ
+  here d = left w.max_move w.target w.refused w.made d w.last
 
   pub goes_on : moves_on w.last w.target w.made ≡ true
       → IsNext (Walking w) (record { line = step (w.made + 1) next_place; rest = Walking stepped })
@@ -107,29 +119,29 @@ module _ (w : Way) where
       let k : most_steps - w.made ≡ suc (most_steps - (w.made + 1)) = omega arith in
       record {
         joins =
-            ap (λ (d : ℕ). left w.max_move w.target w.made d w.last) k
-            ∙ elsewhere w.max_move w.target w.made (most_steps - (w.made + 1)) w.last away;
+            ap here k ∙ elsewhere w.max_move w.target w.refused w.made (most_steps - (w.made + 1)) w.last away;
         fewer = omega arith;
       }
 
-  all_made : ltb w.made most_steps ≡ false → left w.max_move w.target w.made (most_steps - w.made) w.last ≡ written (Arrived w.made)
+  all_made : ltb w.made most_steps ≡ false → here (most_steps - w.made) ≡ written (end_line w.made w.refused)
   unfolding left
   all_made e =
       let none : most_steps ≤ w.made = ltb-false w.made most_steps e in
       let k : most_steps - w.made ≡ zero = omega arith in
-      ap (λ (d : ℕ). left w.max_move w.target w.made d w.last) k
+      ap here k
 
   ends_by : (a b : Bool) → same w.last w.target ≡ a → ltb w.made most_steps ≡ b → (not a && b) ≡ false
-      → left w.max_move w.target w.made (most_steps - w.made) w.last ≡ written (Arrived w.made)
-  ends_by true b there more e = at_target w.max_move w.target w.made (most_steps - w.made) w.last there
+      → here (most_steps - w.made) ≡ written (end_line w.made w.refused)
+  ends_by true b there more e = at_target w.max_move w.target w.refused w.made (most_steps - w.made) w.last there
   ends_by false b there more e = all_made (more ∙ e)
 
-  pub ends : moves_on w.last w.target w.made ≡ false → IsNext (Walking w) (record { line = Arrived w.made; rest = Done })
+  pub ends : moves_on w.last w.target w.made ≡ false → IsNext (Walking w) (record { line = end_line w.made w.refused; rest = Done })
   unfolding text_of lines_left moves_on
   ends e =
       record {
         joins =
-            ends_by (same w.last w.target) (ltb w.made most_steps) refl refl e ∙ sym (append-nil (written (Arrived w.made)));
+            ends_by (same w.last w.target) (ltb w.made most_steps) refl refl e
+            ∙ sym (append-nil (written (end_line w.made w.refused)));
         fewer = omega arith;
       }
 
@@ -170,7 +182,7 @@ part_more {l} {l'} {l''} {at} {k} {k'} {whole} r n p room is s few =
 
 -- ---- the block of a walk, and of one that is refused
 abbrev begins : Float → Point → Point → Rest
-begins m s t = Walking (record { max_move = m; last = s; target = t; made = 0 })
+begins m s t = Walking (record { max_move = m; last = s; target = t; made = 0; refused = 0 })
 
 given_walk : (m : Float) (s t : Point) → Fit m → Each Fit s → Each Fit t → walk_refusal m s t ≡ 0 →
     WalkPrints m s t (text_of (begins m s t))

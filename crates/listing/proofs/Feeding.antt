@@ -91,12 +91,11 @@ module _ (part : List ℕ) (p : Printer) (from end : ℕ) (q : Reached) (is : en
           splits.1,
         )
 
-    pub reads_line : (is_done p.rest) ≡ true → length (held p.carry).text ≤ 128 → end < length part → q.from ≡ end + 1
-        → held q.printer.carry ≡ fresh
+    pub reads_line : (is_done p.rest) ≡ true → end < length part → q.from ≡ end + 1 → held q.printer.carry ≡ fresh
         → Prints (asks (keep (held p.carry) (take (end - from) here))) (text_of q.printer.rest) → Leaves part p from q
-    reads_line done short ends to empty prints =
+    reads_line done ends to empty prints =
         let was = line_read ends to in
-        let run = line_asks before_newline (held p.carry) was.2 short in
+        let run = line_asks before_newline (held p.carry) was.2 in
         let text = text_of q.printer.rest in (
           record {
             bytes = before_newline ++ (newline ∷ []);

@@ -9,7 +9,6 @@ use Rattle.lines.specs.Fields.{newline, field_end}
 use Rattle.lines.specs.Lines.{has_room}
 use Rattle.lines.specs.Record.{record_of}
 use Rattle.lines.specs.declared.record.Walk.{Walk}
-use Rattle.lines.proofs.Cutting.{held_short}
 use Rattle.listing.specs.Listing.{Prints}
 use Rattle.listing.specs.Asks.{asks}
 use Rattle.listing.specs.Block.{text_of, is_done, Part}
@@ -31,16 +30,16 @@ stores before after g f stored = (
       (record { same = refl; place = refl; stored = stored }),
 )
 
-pub goes_nowhere : (part buf : List ℕ) (g : Stretch) → Goes part buf g buf g
-goes_nowhere part buf g c none = puts_left (reached c g) (reached c g) (fills_nothing buf (reached c g))
+pub goes_nowhere : (part buf : List ℕ) (begun : Bool) (g : Stretch) → Goes part begun buf g buf g
+goes_nowhere part buf begun g c none = puts_left (reached c g) (reached c g) (fills_nothing buf (reached c g))
 
 -- and then what a stretch behind it does
-pub goes_more : {part before between after : List ℕ} (g h k : Stretch) → Goes part before g between h → Goes part between h after k
-    → Goes part before g after k
+pub goes_more : {part before between after : List ℕ} {begun : Bool} (g h k : Stretch) → Goes part begun before g between h
+    → Goes part begun between h after k → Goes part begun before g after k
 goes_more g h k x y c none = puts_more (reached c h) (reached c k) (x c none) (y c none)
 
 -- a line is read where nothing is left and there is room
-may_read : (d r : Bool) → (not (not d) && r) ≡ true → (d ≡ true) × (r ≡ true)
+pub may_read : (d r : Bool) → (not (not d) && r) ≡ true → (d ≡ true) × (r ≡ true)
 may_read true r e = (refl, e)
 may_read false r e = absurd (false≢true e)
 
@@ -56,10 +55,11 @@ module _ (part : List ℕ) (n : ℕ) (g : Stretch) (end : ℕ) (whole : Rest) (i
       let l = take (end - g.from) (drop g.from part) in
       let from_inside : g.from < length part = omega arith in
       record {
-        goes = λ buf c none.
+        goes = λ buf c whole_lines.
+            let none = whole_lines refl in
             let same : record_of l ≡ asks (keep (held c) l) = sym (ap (λ (k : Held). asks (keep k l)) none ∙ asks_whole l) in
             puts_line (reached c behind) (reached c behind)
-            (reads_line part (reached c g).printer g.from end (reached c behind) is from_inside ready.0 (held_short c) inside refl none
+            (reads_line part (reached c g).printer g.from end (reached c behind) is from_inside ready.0 inside refl none
             (subst (λ (a : Option Walk). Prints a (text_of whole)) same prints))
             (fills_nothing buf (reached c behind));
         nearer = (omega arith, omega arith);
@@ -76,3 +76,16 @@ pub unmoved_more : (before between : List ℕ) (g h k : Stretch) → length betw
     → Unmoved between h k → Unmoved before g k
 unmoved_more before between g h k long x y none =
     y (sym (same_room before between g.at h.at (ap (λ (s : Stretch). s.at) (x none)) long) ∙ none) ∙ x none
+
+-- ---- behind a stretch more is stored
+module _ (part : List ℕ) (begun : Bool) {before between after : List ℕ} {g h k : Stretch} where
+  pub filled_behind : length between ≡ length before → Goes part begun before g between h → Unmoved before g h
+      → Stores between h after k → Unmoved between h k → Goes part begun before g after k × Unmoved before g k
+  filled_behind long goes same stored still =
+      (goes_more g h k goes (λ c none. stored.1 part c), unmoved_more before between g h k long same still)
+
+-- or a line is read, where none has begun
+pub read_behind : {part before after : List ℕ} {n : ℕ} {g h k : Stretch} (begun : Bool) → begun ≡ false → Goes part begun before g after h
+    → Read part n h k → Goes part begun before g after k
+read_behind {after = after} {g = g} {h = h} {k = k} begun whole goes read =
+    goes_more g h k goes (λ c none. read.goes after c (λ z. none whole))

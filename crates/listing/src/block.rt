@@ -5,7 +5,7 @@ ghost use Rattle.numbers.specs.Stored.{Stored};
 ghost use Rattle.lines.specs.Lines.{written, has_room};
 ghost use Rattle.lines.specs.declared.listed.Line.TheVariants.{Header};
 ghost use Rattle.listing.specs.Listing.{point_at, step, WalkPrints, Prints, listing_version};
-ghost use Rattle.listing.specs.Block.{text_of, moves_on, is_done, Part, IsNext};
+ghost use Rattle.listing.specs.Block.{end_line, text_of, moves_on, is_done, Part, IsNext};
 
 use legs::Point;
 use lines::listed::{Line, Moved};
@@ -13,19 +13,22 @@ use lines::record::{Place, Walk};
 use lines::{listed, record};
 use numbers::Refusal;
 
-/// A walk on its way: after `made` steps of at most `max_move` metres it stands at `last`.
+/// A walk on its way: after `made` steps of at most `max_move` metres it stands at `last`. Once it is at `target`, `A` and the count
+/// follow, or where `refused` is not 0, `R` and that number.
+// Kept: a number, and no refusal or none. A host keeps a printer as a value and may hand in any, and each says what is printed for it.
 #[derive(Clone, Copy, Debug, PartialEq)]
 pub struct Way {
     pub max_move: f32,
     pub last: Point,
     pub target: Point,
     pub made: u32,
+    pub refused: u32,
 }
 
 /// What is left of a block.
 #[derive(Clone, Copy, Debug, PartialEq)]
 pub enum Rest {
-    /// The steps of a walk that are still to be made, then `A` and the count.
+    /// The steps of a walk that are still to be made, then its last line.
     Walking(Way),
     /// `R` and the refusal's number.
     Refusing(Refusal),
@@ -69,6 +72,7 @@ fn walk(w: Walk) -> Rest
             last: start,
             target,
             made: 0,
+            refused: 0,
         }),
         Err(refusal) => Rest::Refusing(refusal),
     }
@@ -106,6 +110,17 @@ fn step_line(k: u32, p: Point) -> Line
     })
 }
 
+// The last line of a walk.
+fn end_line(count: u32, refused: u32) -> Line
+    ensures { result ≡ end_line count refused }
+{
+    if refused == 0 {
+        Line::Arrived(count)
+    } else {
+        Line::Refused(refused)
+    }
+}
+
 impl Way {
     // The next line: of a step more, or of the walk's end.
     fn next(self) -> Next
@@ -124,7 +139,7 @@ impl Way {
             }
         } else {
             Next {
-                line: Line::Arrived(self.made),
+                line: end_line(self.made, self.refused),
                 rest: Rest::Done,
             }
         }

@@ -76,11 +76,10 @@ fn advanced(q: Reached, part: &[u8], buf: &mut [u8]) -> Reached
         from: q.from,
         at: q.at,
     };
-    if carry::has_begun(carry) {
-        behind(carry, stretch::filled(buf, start))
-    } else {
-        behind(carry, stretch::gone(buf, part, start))
-    }
+    behind(
+        carry,
+        stretch::gone(buf, part, carry::has_begun(carry), start),
+    )
 }
 
 // Behind a stretch, over which what is kept of a line has stayed.

@@ -17,7 +17,7 @@ pub(crate) struct Stretch {
 }
 
 // What is left is stored as far as there is room.
-pub(crate) fn filled(buf: &mut [u8], g: Stretch) -> Stretch
+fn filled(buf: &mut [u8], g: Stretch) -> Stretch
     ensures { Stores buf.old g buf.new result × ((not (is_done result.rest) && has_room buf.new result.at) ≡ false)
         × Unmoved buf.old g result }
 {
@@ -47,14 +47,22 @@ fn line_read(part: &[u8], n: usize, g: Stretch) -> Option<Stretch>
     })
 }
 
-// As far as it goes, where nothing is kept of a line.
-pub(crate) fn gone(buf: &mut [u8], part: &[u8], g: Stretch) -> Stretch
-    ensures { Goes part.now buf.old g buf.new result × ((not (is_done result.rest) && has_room buf.new result.at) ≡ false)
-        × Unmoved buf.old g result }
+// As far as it goes. Where a line has begun, of which something is kept, no line lies whole in the part.
+pub(crate) fn gone(buf: &mut [u8], part: &[u8], begun: bool, g: Stretch) -> Stretch
+    ensures { Goes part.now begun buf.old g buf.new result
+        × ((not (is_done result.rest) && has_room buf.new result.at) ≡ false) × Unmoved buf.old g result }
 {
-    let mut g = filled(buf, g);
-    while let Some(next) = line_read(part, buf.len(), g) {
-        g = filled(buf, next);
+    let mut g = g;
+    // Kept: filling stands at one place of one loop, so that what is left of a block stays in registers. With a `while let` it would stand
+    // at two, and lines of two bytes would take seven tenths more time.
+    loop {
+        g = filled(buf, g);
+        if begun {
+            return g;
+        }
+        match line_read(part, buf.len(), g) {
+            Some(next) => g = next,
+            None => return g,
+        }
     }
-    g
 }

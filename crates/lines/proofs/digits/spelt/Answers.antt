@@ -1,33 +1,38 @@
--- `lines::digits::spelt` meets its contract. What is read of the bytes to come, after the number so far, is what is read of all.
-use mathlib.Core.Path.{sym, ap, ◌∙◌}
+-- `lines::digits::spelt` meets its contract. What is read of the bytes from 2 * k on, after the number so far, is what is read of all.
+use mathlib.Core.Path.{◌≡◌, refl, sym, ap, ◌∙◌}
+use Prim.Native.Nat.{◌+◌, ◌*◌, ◌≤◌}
+use borrow.Author.Rules.{rules}
 use native.Mathlib.Omega.{arith}
-use lib.Dec.{lit≤}
+use lib.ListN.{length}
 use Rattle.lines.specs.Digits.{Digits}
-use Rattle.lines.proofs.Reading.{next_digit, next_number, number_below, read_end, known, room}
+use Rattle.lines.proofs.Reading.{known_two, read_end, two_below, room_for_two}
 use Rattle.lines.proofs.digits.spelt.Goals as goal
 
-pub overflow_mul-value : goal.overflow_mul-value
-overflow_mul-value c = omega (arith, room _ _ c.loop-b.invariant.1 (omega (arith, c.requires.0)))
+pub loop-k-init : goal.loop-k-init
+loop-k-init c = (refl, search rules)
 
-pub known_digit-requires : goal.known_digit-requires
-known_digit-requires c =
-    next_digit 16 c.args.s.now c.loop-b.b-index c.loop-b.value c.loop-b-test.true c.loop-b.invariant.0 c.requires.1
+pub bounds-s-k : goal.bounds-s-k
+bounds-s-k c = omega (arith, c.requires.0)
 
-pub overflow_add-value : goal.overflow_add-value
-overflow_add-value c =
-    let low = next_digit 16 c.args.s.now c.loop-b.b-index c.loop-b.value c.loop-b-test.true c.loop-b.invariant.0 c.requires.1 in
-    omega (arith, room _ _ c.loop-b.invariant.1 (omega (arith, c.requires.0)), c.known_digit.ensures, low)
+pub bounds-s-k-in-loop-k : goal.bounds-s-k-in-loop-k
+bounds-s-k-in-loop-k c = omega (arith, c.requires.0)
 
-pub loop-b-preserved : goal.loop-b-preserved
-loop-b-preserved c =
-    let s = c.args.s.now in
-    let i = c.loop-b.b-index in
-    let h = c.loop-b-test.true in
-    let low = next_digit 16 s i c.loop-b.value h c.loop-b.invariant.0 c.requires.1 in (
-      rw c.known_digit.ensures (next_number 16 s i c.loop-b.value h c.loop-b.invariant.0 (lit≤ tt) low),
-      rw c.known_digit.ensures (number_below 16 s i c.loop-b.value h c.loop-b.invariant.0 (lit≤ tt) c.loop-b.invariant.1 low),
+pub pushed_two-v-requires : goal.pushed_two-v-requires
+pushed_two-v-requires c =
+    let here = c.loop-k in
+    let next = known_two c.args.s.now (2 * here.k) here.v (omega (arith, c.requires.0)) c.requires.1 here.invariant.0 in
+    (room_for_two _ _ here.invariant.1 (omega arith), next.0, next.1)
+
+pub loop-k-preserved : goal.loop-k-preserved
+loop-k-preserved c =
+    let here = c.loop-k in
+    let place : 2 * here.k + 1 + 1 ≡ 2 * (here.k + 1) = omega arith in
+    let next = known_two c.args.s.now (2 * here.k) here.v (omega (arith, c.requires.0)) c.requires.1 here.invariant.0 in (
+      rw (c.pushed_two-v.ensures, sym place) next.2,
+      rw (c.pushed_two-v.ensures, sym place) (two_below _ _ _ _ here.invariant.1),
     )
 
 pub returns : goal.returns
-returns c = ap (λ (d : Digits). d.value)
-    (sym (read_end c.args.s.now c.loop-b.b-index c.loop-b-test.false 16 (known c.loop-b.value)) ∙ c.loop-b.invariant.0)
+returns c =
+    let all : length c.args.s.now ≤ 2 * c.loop-k.k = omega (arith, c.requires.0) in
+    ap (λ (d : Digits). d.value) (sym (read_end _ _ all 16 _) ∙ c.loop-k.invariant.0)

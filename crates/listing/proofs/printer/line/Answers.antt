@@ -1,9 +1,8 @@
--- `listing::printer::line` meets its contract. No more than 128 bytes were kept.
+-- `listing::printer::line` meets its contract.
 use Rattle.std.specs.Prelude.{◌≡◌, ◌-◌, ◌<◌, ◌≤◌, length, take, drop}
 use mathlib.Core.Path.{refl, subst}
 use native.Mathlib.Omega.{arith}
 use Rattle.lines.specs.Carry.{held, keep}
-use Rattle.lines.proofs.Cutting.{held_short}
 use Rattle.std.specs.Prelude.{Option}
 use Rattle.lines.specs.declared.record.Walk.{Walk as Record}
 use Rattle.listing.specs.Listing.{Prints}
@@ -24,13 +23,12 @@ returns-then-end-n c =
     let a = c.args in
     let pre = c.requires in
     let p : Printer = record { carry = a.c; rest = a.rest } in
-    let short = held_short a.c in
     let e = c.field_end-end in
     let ends : e.result < length a.part.now = c.if-end-n.true in
     let empty = c.empty.ensures in
     let w = c.whole in
     let asked = subst (λ (x : Option Record). Prints x (text_of w.result)) c.finished.ensures w.ensures in
-    (reads_line a.part.now p a.from e.result _ e.ensures pre.1 pre.0 short ends refl empty asked, refl, omega arith)
+    (reads_line a.part.now p a.from e.result _ e.ensures pre.1 pre.0 ends refl empty asked, refl, omega arith)
 
 pub returns-else-end-n : goal.returns-else-end-n
 returns-else-end-n c =

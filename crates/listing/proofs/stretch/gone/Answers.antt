@@ -1,38 +1,31 @@
 -- `listing::stretch::gone` meets its contract: the place goes up to the end of the part.
 use Rattle.std.specs.Prelude.{◌≡◌, length}
 use mathlib.Core.Path.{refl}
-use native.Mathlib.Omega.{arith}
 use borrow.Author.Rules.{rules}
-use Rattle.listing.proofs.Stretches.{goes_nowhere, goes_more, moved_on, unmoved_more}
+use Rattle.listing.proofs.Stretches.{goes_nowhere, filled_behind, read_behind, moved_on}
 use Rattle.listing.proofs.stretch.gone.Goals as goal
 
-pub loop-next-init : goal.loop-next-init
-loop-next-init c = (refl, goes_nowhere _ _ _, c.filled-g.ensures.1, λ none. refl)
+pub loop-g-init : goal.loop-g-init
+loop-g-init c = (refl, goes_nowhere _ _ _ _, λ none. refl)
 
-pub loop-next-smaller : goal.loop-next-smaller
-loop-next-smaller c = omega (arith, c.in-Some.ensures.nearer.0, c.in-Some.ensures.nearer.1, c.filled-g-in-Some.ensures.0.0)
+pub returns-then-begun : goal.returns-then-begun
+returns-then-begun c =
+    let l = c.loop-g in
+    let x = c.filled-g.ensures in
+    let y = filled_behind c.args.part.now c.args.begun l.invariant.0 l.invariant.1 l.invariant.2 x.0 x.2 in
+    (y.0, x.1, y.1)
 
-pub loop-next-preserved : goal.loop-next-preserved
-loop-next-preserved c =
-    let part = c.args.part.now in
-    let l = c.loop-next in
-    let next = c.in-Some.next in
-    let x = c.filled-g-in-Some.ensures in
-    let h = c.filled-g-in-Some.result in (
-      search rules,
-      goes_more c.filled-g.result l.g h l.invariant.1 (goes_more l.g next h (c.in-Some.ensures.goes l.buf) (λ k none. x.0.1 part k)),
-      x.1,
-      moved_on _ l.buf c.filled-g.result l.g l.invariant.3 l.invariant.0 c.in-Some.ensures.room,
-    )
+pub loop-g-preserved : goal.loop-g-preserved
+loop-g-preserved c =
+    let l = c.loop-g in
+    let x = c.filled-g.ensures in
+    let y = filled_behind c.args.part.now c.args.begun l.invariant.0 l.invariant.1 l.invariant.2 x.0 x.2 in
+    let long : length c.filled-g.new.buf ≡ length c.args.buf.now = search rules in
+    (long, read_behind c.args.begun c.if-begun.false y.0 c.in-Some.ensures, moved_on _ _ _ _ y.1 long c.in-Some.ensures.room)
 
-pub returns : goal.returns
-returns c =
-    let a = c.args in
-    let l = c.loop-next in
-    let first = c.filled-g in
-    let x = first.ensures in
-    let long : length first.new.buf ≡ length a.buf.now = search rules in (
-      goes_more a.g first.result l.g (λ k none. x.0.1 a.part.now k) l.invariant.1,
-      l.invariant.2,
-      unmoved_more a.buf.now first.new.buf a.g first.result l.g long x.2 l.invariant.3,
-    )
+pub returns-in-None : goal.returns-in-None
+returns-in-None c =
+    let l = c.loop-g in
+    let x = c.filled-g.ensures in
+    let y = filled_behind c.args.part.now c.args.begun l.invariant.0 l.invariant.1 l.invariant.2 x.0 x.2 in
+    (y.0, x.1, y.1)

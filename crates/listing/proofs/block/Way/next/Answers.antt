@@ -12,4 +12,4 @@ returns-then-moves_on c =
     (goes_on c.args.self (sym c.moves_on.ensures ∙ c.if-moves_on.true))
 
 pub returns-else-moves_on : goal.returns-else-moves_on
-returns-else-moves_on c = ends c.args.self (sym c.moves_on.ensures ∙ c.if-moves_on.false)
+returns-else-moves_on c = rw c.end_line.ensures (ends c.args.self (sym c.moves_on.ensures ∙ c.if-moves_on.false))
