@@ -1,19 +1,16 @@
 -- No two of the six names agree in both their length and their first byte: whether a name is a leg's is settled by one of the six, which
 -- these two tell. Assumes nothing.
-use Rattle.std.specs.Prelude.{◌≡◌, ℕ, true, false, ◌==◌, eqb, List, length, get_or}
-use mathlib.Core.Path.{refl, sym, ◌∙◌, subst}
+use Rattle.std.specs.Prelude.{◌≡◌, ℕ, true, false, eqb, List, length, get_or, Option, Some, None}
+use mathlib.Core.Path.{refl, sym, ap, ◌∙◌, subst}
 use borrow.Author.Tests.{eqb-true}
 use Rattle.numbers.specs.Told.{choose}
 use Rattle.legs.specs.Legs.{Leg, left_front, right_front, left_middle, right_middle, left_rear, right_rear}
 use Rattle.numbers.proofs.Flags.{chosen, by_test}
+use Rattle.legs.specs.LegNumbers.{leg_number}
+use Rattle.legs.specs.declared.leg.Leg.{Leg as LegByName}
 use Rattle.poses.specs.Names.{name_of, number, name_at, same, leg_named}
+use Rattle.poses.specs.Gathering.{the_leg, likely}
 use Rattle.poses.proofs.Named.{same_means}
-
--- the leg whose name has so many bytes and begins with this one, 6 where there is none
-abbrev pub likely : ℕ → ℕ → ℕ
-likely n first =
-    choose (first == 108) (choose (n == 10) 0 (choose (n == 11) 2 (choose (n == 9) 4 6)))
-    (choose (n == 11) 1 (choose (n == 12) 3 (choose (n == 10) 5 6)))
 
 -- ---- the likely leg: a name that is a leg's has that leg's length and first byte
 abbrev guess : List ℕ → ℕ
@@ -87,3 +84,22 @@ likely_leg name =
     (λ d.
     by_test (same name (name_of left_rear)) (one_of_six name left_rear)
     (λ e. by_test (same name (name_of right_rear)) (one_of_six name right_rear) (none_of_six name a b c d e))))))
+
+-- ---- the same of legs: the likely one where it has the name, else none
+module _ (name : List ℕ) where
+  abbrev pub where_named : Option LegByName → Option LegByName
+  where_named (Some l) = choose (same name (name_at (leg_number l))) (Some l) None
+  where_named None = None
+
+  pub leg_by_likely : the_leg (leg_named name) ≡ where_named (the_leg (likely (length name) (get_or name 0 0)))
+  leg_by_likely =
+      ap the_leg (likely_leg name)
+      ∙ likely_one (length name) (get_or name 0 0) (λ k. the_leg (looked name k) ≡ where_named (the_leg k)) (λ l long. of l) refl
+    where
+      of : (l : Leg) → the_leg (looked name (number l)) ≡ where_named (the_leg (number l))
+      of left_front = by_test (same name (name_of left_front)) (λ e. rw e refl) (λ e. rw e refl)
+      of right_front = by_test (same name (name_of right_front)) (λ e. rw e refl) (λ e. rw e refl)
+      of left_middle = by_test (same name (name_of left_middle)) (λ e. rw e refl) (λ e. rw e refl)
+      of right_middle = by_test (same name (name_of right_middle)) (λ e. rw e refl) (λ e. rw e refl)
+      of left_rear = by_test (same name (name_of left_rear)) (λ e. rw e refl) (λ e. rw e refl)
+      of right_rear = by_test (same name (name_of right_rear)) (λ e. rw e refl) (λ e. rw e refl)

@@ -62,6 +62,12 @@ abbrev pub number_or_6 : Option Leg → ℕ
 number_or_6 (Some leg) = leg_number leg
 number_or_6 None = 6
 
+-- the number of the one leg whose name has so many bytes and begins with this one, 6 where there is none
+abbrev pub likely : ℕ → ℕ → ℕ
+likely n first =
+    choose (first == 108) (choose (n == 10) 0 (choose (n == 11) 2 (choose (n == 9) 4 6)))
+    (choose (n == 11) 1 (choose (n == 12) 3 (choose (n == 10) 5 6)))
+
 unfoldable pub leg_between : List ℕ → ℕ → ℕ → ℕ
 leg_between s from end = leg_named (take (end - 1 - from) (drop from s))
 

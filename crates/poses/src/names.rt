@@ -2,10 +2,10 @@
 ghost use Rattle.std.specs.Prelude.{◌≡◌, ◌+◌, ◌<◌, ◌≤◌, length, drop};
 ghost use Rattle.poses.specs.Json.{is_hex, is_escape};
 ghost use Rattle.numbers.specs.Told.{choose};
-ghost use Rattle.poses.specs.How.{between, is_tail, many_where, escaped, wide, char_long, name_end};
+ghost use Rattle.poses.specs.How.{byte, between, is_tail, many_where, escaped, wide, char_long, name_end};
 ghost use Rattle.legs.specs.LegNumbers.{leg_number};
 ghost use Rattle.poses.specs.Names.{name_at, same, leg_named};
-ghost use Rattle.poses.specs.Gathering.{the_leg};
+ghost use Rattle.poses.specs.Gathering.{the_leg, likely};
 
 use crate::text;
 use legs::Leg;
@@ -24,6 +24,26 @@ pub fn name_of(leg: Leg) -> &'static [u8]
     }
 }
 
+// The one leg whose name may have so many bytes and begin with the same one.
+fn likely(name: &[u8]) -> Option<Leg>
+    ensures { result ≡ the_leg (likely (length name.now) (byte name.now 0)) }
+{
+    if text::byte_at(name, 0) == b'l' {
+        return match name.len() {
+            10 => Some(Leg::LeftFront),
+            11 => Some(Leg::LeftMiddle),
+            9 => Some(Leg::LeftRear),
+            _ => None,
+        };
+    }
+    match name.len() {
+        11 => Some(Leg::RightFront),
+        12 => Some(Leg::RightMiddle),
+        10 => Some(Leg::RightRear),
+        _ => None,
+    }
+}
+
 // Whether a leg has a name.
 fn is_named(name: &[u8], leg: Leg) -> bool
     ensures { result ≡ same name.now (name_at (leg_number leg)) }
@@ -31,29 +51,14 @@ fn is_named(name: &[u8], leg: Leg) -> bool
     name == name_of(leg)
 }
 
-/// The leg that has a name.
+/// The leg that has a name. One name is compared, and not six.
 pub fn leg_named(name: &[u8]) -> Option<Leg>
     ensures { result ≡ the_leg (leg_named name.now) }
 {
-    if is_named(name, Leg::LeftFront) {
-        return Some(Leg::LeftFront);
+    match likely(name) {
+        Some(leg) => { if is_named(name, leg) { Some(leg) } else { None } }
+        None => None,
     }
-    if is_named(name, Leg::RightFront) {
-        return Some(Leg::RightFront);
-    }
-    if is_named(name, Leg::LeftMiddle) {
-        return Some(Leg::LeftMiddle);
-    }
-    if is_named(name, Leg::RightMiddle) {
-        return Some(Leg::RightMiddle);
-    }
-    if is_named(name, Leg::LeftRear) {
-        return Some(Leg::LeftRear);
-    }
-    if is_named(name, Leg::RightRear) {
-        return Some(Leg::RightRear);
-    }
-    None
 }
 
 // A byte behind the first of a character.

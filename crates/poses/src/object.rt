@@ -59,8 +59,8 @@ fn member(s: &[u8], i: usize) -> MemberRead
 }
 
 // Whether a name is no leg's, or was there before.
-fn is_strange(slots: [Slot; 6], leg: Option<Leg>) -> bool
-    ensures { result ≡ is_strange slots (number_or_6 leg) }
+fn is_strange(slots: &[Slot; 6], leg: Option<Leg>) -> bool
+    ensures { result ≡ is_strange slots.now (number_or_6 leg) }
 {
     match leg {
         Some(leg) => slots[leg.number() as usize].is_some(),
@@ -68,17 +68,12 @@ fn is_strange(slots: [Slot; 6], leg: Option<Leg>) -> bool
     }
 }
 
-// With a leg's value, where the leg is one.
-fn placed(slots: [Slot; 6], leg: Option<Leg>, foot: OptionalFoot) -> [Slot; 6]
-    ensures { result ≡ placed slots (number_or_6 leg) foot }
+// A leg's value goes to its place, where the leg is one.
+fn place(slots: &mut [Slot; 6], leg: Option<Leg>, foot: OptionalFoot)
+    ensures { slots.new ≡ placed slots.old (number_or_6 leg) foot }
 {
-    match leg {
-        Some(leg) => {
-            let mut next = slots;
-            next[leg.number() as usize] = Some(foot);
-            next
-        }
-        None => slots,
+    if let Some(leg) = leg {
+        slots[leg.number() as usize] = Some(foot);
     }
 }
 
@@ -89,19 +84,17 @@ fn closing(comma: bool) -> u8
     if comma { b',' } else { b'}' }
 }
 
-// With the member that is due.
-fn one_more(s: &[u8], p: Progress) -> Progress
-    ensures { result ≡ one_more s.now p }
+// The member that is due is read.
+fn one_more(s: &[u8], p: &mut Progress)
+    ensures { p.new ≡ one_more s.now p.old }
 {
     let m = member(s, p.at);
     let comma = text::byte_at(s, m.next) == b',';
-    Progress {
-        at: text::token(s, m.next, closing(comma)),
-        due: comma,
-        outside: p.outside | !foot_permitted(m.foot),
-        strange: p.strange | is_strange(p.slots, m.leg),
-        slots: placed(p.slots, m.leg, m.foot),
-    }
+    p.at = text::token(s, m.next, closing(comma));
+    p.due = comma;
+    p.outside = p.outside | !foot_permitted(m.foot);
+    p.strange = p.strange | is_strange(&p.slots, m.leg);
+    place(&mut p.slots, m.leg, m.foot);
 }
 
 // Nothing read yet, and a member due or none.
@@ -126,7 +119,7 @@ fn members(s: &[u8], at: usize) -> Progress
         if !p.due {
             return p;
         }
-        p = one_more(s, p);
+        one_more(s, &mut p);
     }
     p
 }

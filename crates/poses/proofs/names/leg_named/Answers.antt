@@ -1,59 +1,29 @@
--- `poses::names::leg_named` meets its contract: the first leg that has the name.
-use mathlib.Core.Path.{sym, ◌∙◌}
-use Rattle.poses.proofs.Named.{is_left_front, is_right_front, is_left_middle, is_right_middle, is_left_rear, is_right_rear, is_none}
+-- `poses::names::leg_named` meets its contract. Only the likely leg's name is compared.
+use mathlib.Core.Path.{sym, ap, ◌∙◌}
+use Rattle.std.specs.Prelude.{Bool, Some, None}
+use Rattle.numbers.specs.Told.{choose}
+use Rattle.poses.proofs.Likely.{where_named, leg_by_likely}
 use Rattle.poses.proofs.names.leg_named.Goals as goal
 
 pub returns-then-is_named : goal.returns-then-is_named
 returns-then-is_named c =
-    is_left_front c.args.name.now
-    (sym c.is_named.ensures ∙ c.if-is_named.true)
+    let name = c.args.name.now in
+    sym (
+    leg_by_likely name
+    ∙ ap (where_named name) (sym c.likely.ensures ∙ c.in-Some.is)
+    ∙ ap (λ (b : Bool). choose b (Some c.in-Some.leg) None) (sym c.is_named.ensures ∙ c.if-is_named.true)
+    )
 
-pub returns-then-is_named-2 : goal.returns-then-is_named-2
-returns-then-is_named-2 c =
-    is_right_front c.args.name.now
-    (sym c.is_named.ensures ∙ c.if-is_named.false)
-    (sym c.is_named-2.ensures ∙ c.if-is_named-2.true)
+pub returns-else-is_named : goal.returns-else-is_named
+returns-else-is_named c =
+    let name = c.args.name.now in
+    sym (
+    leg_by_likely name
+    ∙ ap (where_named name) (sym c.likely.ensures ∙ c.in-Some.is)
+    ∙ ap (λ (b : Bool). choose b (Some c.in-Some.leg) None) (sym c.is_named.ensures ∙ c.if-is_named.false)
+    )
 
-pub returns-then-is_named-3 : goal.returns-then-is_named-3
-returns-then-is_named-3 c =
-    is_left_middle c.args.name.now
-    (sym c.is_named.ensures ∙ c.if-is_named.false)
-    (sym c.is_named-2.ensures ∙ c.if-is_named-2.false)
-    (sym c.is_named-3.ensures ∙ c.if-is_named-3.true)
-
-pub returns-then-is_named-4 : goal.returns-then-is_named-4
-returns-then-is_named-4 c =
-    is_right_middle c.args.name.now
-    (sym c.is_named.ensures ∙ c.if-is_named.false)
-    (sym c.is_named-2.ensures ∙ c.if-is_named-2.false)
-    (sym c.is_named-3.ensures ∙ c.if-is_named-3.false)
-    (sym c.is_named-4.ensures ∙ c.if-is_named-4.true)
-
-pub returns-then-is_named-5 : goal.returns-then-is_named-5
-returns-then-is_named-5 c =
-    is_left_rear c.args.name.now
-    (sym c.is_named.ensures ∙ c.if-is_named.false)
-    (sym c.is_named-2.ensures ∙ c.if-is_named-2.false)
-    (sym c.is_named-3.ensures ∙ c.if-is_named-3.false)
-    (sym c.is_named-4.ensures ∙ c.if-is_named-4.false)
-    (sym c.is_named-5.ensures ∙ c.if-is_named-5.true)
-
-pub returns-then-is_named-6 : goal.returns-then-is_named-6
-returns-then-is_named-6 c =
-    is_right_rear c.args.name.now
-    (sym c.is_named.ensures ∙ c.if-is_named.false)
-    (sym c.is_named-2.ensures ∙ c.if-is_named-2.false)
-    (sym c.is_named-3.ensures ∙ c.if-is_named-3.false)
-    (sym c.is_named-4.ensures ∙ c.if-is_named-4.false)
-    (sym c.is_named-5.ensures ∙ c.if-is_named-5.false)
-    (sym c.is_named-6.ensures ∙ c.if-is_named-6.true)
-
-pub returns : goal.returns
-returns c =
-    is_none c.args.name.now
-    (sym c.is_named.ensures ∙ c.if-is_named.false)
-    (sym c.is_named-2.ensures ∙ c.if-is_named-2.false)
-    (sym c.is_named-3.ensures ∙ c.if-is_named-3.false)
-    (sym c.is_named-4.ensures ∙ c.if-is_named-4.false)
-    (sym c.is_named-5.ensures ∙ c.if-is_named-5.false)
-    (sym c.is_named-6.ensures ∙ c.if-is_named-6.false)
+pub returns-in-None : goal.returns-in-None
+returns-in-None c =
+    let name = c.args.name.now in
+    sym (leg_by_likely name ∙ ap (where_named name) (sym c.likely.ensures ∙ c.in-None.is))
