@@ -1,51 +1,86 @@
--- One leg before others: past its limit it is the first that is refused, with its own refusal; short of it the legs after it say. Here a
--- refused leg is its number in row order and its refusal's number, both 0 where no leg is refused. Assumes nothing.
-use Rattle.std.specs.Prelude.{◌≡◌, ℕ, Bool, true, false, ◌||◌, ◌==◌}
-use mathlib.Core.Path.{refl, sym}
+-- One leg before others, by its coxa's angle: past its limit it is the first that is refused, with its own refusal and number; short of it
+-- the legs after it say. And an entry tells what its core tells, where the door lets the feet and the configuration in. Over the contracts
+-- of what the code goes through (`admit_angle`, `of_leg`, `admit_angles`, the entries and their cores). Assumes nothing.
+use Rattle.std.specs.Prelude.{◌≡◌, ℕ, suc, Bool, true, false, ◌||◌, List, ◌∷◌, Result}
+use mathlib.Core.Path.{refl, sym, ap, ◌∙◌}
 use mathlib.Core.Bool.{true≢false}
 use lib.Ieee.{Float}
-use Rattle.numbers.specs.Told.{choose}
-use Rattle.legs.specs.Legs.{Joints}
-use Rattle.joints.specs.Answers.{told}
-use Rattle.joints.specs.Inverse.{past_positive, past_negative, past_refusal}
+use Rattle.numbers.specs.Told.{Told, answer, choose}
+use Rattle.legs.specs.Legs.{Feet, Joints}
+use Rattle.joints.specs.Answers.{leg_refused, first_leg, told}
+use Rattle.joints.specs.Inverse.{past_positive, past_negative, past_refusal, ik_refusal, legs_told, ik_told}
+use Rattle.joints.specs.Strict.{strict_legs_told, strict_told}
+use Rattle.joints.specs.declared.configuration.Configuration.{Configuration}
 use Rattle.joints.specs.declared.refusal.SolverRefusal.{SolverRefusal}
-use Rattle.std.specs.Prelude.{Result, Ok, Err}
 use Rattle.joints.proofs.TwoTests.{refusal}
+use Rattle.joints.proofs.calculate_ik.Reads as entry
+use Rattle.joints.proofs.unchecked.calculate_ik.Reads as core
+use Rattle.joints.proofs.calculate_ik_strict.Reads as strict_entry
+use Rattle.joints.proofs.unchecked.calculate_ik_strict.Reads as strict_core
 
-pub record RefusedLeg : Type 0 where
-  pub leg : ℕ
-  pub refusal : ℕ
+-- ---- the refusal of one angle: past its limit that of the side that it is on, short of it none
+-- at 90 degrees or more, and at -90 degrees or less
+abbrev pub positive : ℕ
+positive = 6
 
-abbrev pub earlier : ℕ → ℕ → RefusedLeg → RefusedLeg
-earlier n k later = choose (n == 0) later (record { leg = k; refusal = n })
+abbrev pub negative : ℕ
+negative = 8
 
-abbrev pub past_at : ℕ → Float → RefusedLeg
-past_at k a = record { leg = k; refusal = choose (past_positive a) 6 8 }
+pub positive_number : (a : Float) → past_positive a ≡ true → positive ≡ past_refusal a
+unfolding past_refusal
+positive_number a p = by_side (past_positive a) (past_negative a) p
+  where
+    by_side : (u w : Bool) → u ≡ true → positive ≡ refusal positive negative u w
+    by_side true w h = refl
+    by_side false w h = absurd (true≢false (sym h))
 
-module _ (k : ℕ) (later : RefusedLeg) where
-  past_by : (u w : Bool) → (u || w) ≡ true → record { leg = k; refusal = choose u 6 8 } ≡ earlier (refusal 6 8 u w) k later
-  past_by true w h = refl
-  past_by false true h = refl
-  past_by false false h = absurd (true≢false (sym h))
+pub negative_number : (a : Float) → (past_positive a || past_negative a) ≡ true → past_positive a ≡ false → negative ≡ past_refusal a
+unfolding past_refusal
+negative_number a past p = by_side (past_positive a) (past_negative a) past p
+  where
+    by_side : (u w : Bool) → (u || w) ≡ true → u ≡ false → negative ≡ refusal positive negative u w
+    by_side true w h s = absurd (true≢false s)
+    by_side false true h s = refl
+    by_side false false h s = absurd (true≢false (sym h))
 
-  short_by : (u w : Bool) → (u || w) ≡ false → later ≡ earlier (refusal 6 8 u w) k later
-  short_by true w h = absurd (true≢false h)
-  short_by false true h = absurd (true≢false h)
-  short_by false false h = refl
+pub short_number : (a : Float) → (past_positive a || past_negative a) ≡ false → 0 ≡ past_refusal a
+unfolding past_refusal
+short_number a = by_sides (past_positive a) (past_negative a)
+  where
+    by_sides : (u w : Bool) → (u || w) ≡ false → 0 ≡ refusal positive negative u w
+    by_sides true w h = absurd (true≢false h)
+    by_sides false true h = absurd (true≢false h)
+    by_sides false false h = refl
 
-  pub past_leg : (a : Float) → (past_positive a || past_negative a) ≡ true → past_at k a ≡ earlier (past_refusal a) k later
+-- all three, for the test of a leg
+pub ruleset one_angle = (positive_number, negative_number, short_number)
+
+-- ---- of legs in row order, this one the k-th: where it is past its limit it is the first, with its refusal; else the legs after it say
+module _ (k : ℕ) (later : List ℕ) (t : Told) where
+  pub past_leg : (a : Float) → (past_positive a || past_negative a) ≡ true
+      → leg_refused (choose (past_positive a) positive negative) k ≡ first_leg (past_refusal a ∷ later) k t
   unfolding past_refusal
-  past_leg a = past_by (past_positive a) (past_negative a)
+  past_leg a = by_sides (past_positive a) (past_negative a)
+    where
+      by_sides : (u w : Bool) → (u || w) ≡ true
+          → leg_refused (choose u positive negative) k ≡ first_leg (refusal positive negative u w ∷ later) k t
+      by_sides true w h = refl
+      by_sides false true h = refl
+      by_sides false false h = absurd (true≢false (sym h))
 
-  pub short_leg : (a : Float) → (past_positive a || past_negative a) ≡ false → later ≡ earlier (past_refusal a) k later
-  unfolding past_refusal
-  short_leg a = short_by (past_positive a) (past_negative a)
+  pub short_leg : (a : Float) → (past_positive a || past_negative a) ≡ false
+      → first_leg later (suc k) t ≡ first_leg (past_refusal a ∷ later) k t
+  short_leg a h = ap (λ (n : ℕ). first_leg (n ∷ later) k t) (short_number a h)
 
--- the solvers say what their tests say: the angles where these pass, else the refusal that they name
-abbrev pub answered : Result Joints SolverRefusal → Result Joints SolverRefusal
-answered (Ok j) = Ok j
-answered (Err r) = Err r
+-- ---- the entries and their cores, each by its own contract (`Post`): where the door lets all in, an entry tells what its core tells
+let_in : (n : ℕ) (t : Told) → n ≡ 0 → answer n t ≡ t
+let_in n t none = ap (λ (k : ℕ). answer k t) none
 
-pub told_answered : (s : Result Joints SolverRefusal) → told (answered s) ≡ told s
-told_answered (Ok j) = refl
-told_answered (Err r) = refl
+module _ (f : Feet) (c : Configuration) (a b : Result Joints SolverRefusal) (none : ik_refusal f c ≡ 0) where
+  pub told_answered : entry.Post tt (f, (c, tt)) a (f, (c, tt)) → core.Post tt (f, (c, tt)) b (f, (c, tt)) → told a ≡ told b
+  unfolding ik_told
+  told_answered p q = p ∙ let_in (ik_refusal f c) (legs_told f c) none ∙ sym q
+
+  pub strict_answered : strict_entry.Post tt (f, (c, tt)) a (f, (c, tt)) → strict_core.Post tt (f, (c, tt)) b (f, (c, tt)) → told a ≡ told b
+  unfolding strict_told
+  strict_answered p q = p ∙ let_in (ik_refusal f c) (strict_legs_told f c) none ∙ sym q

@@ -162,7 +162,7 @@ fn is_past(angle: f32) -> bool
 }
 
 // Nothing where a coxa at this angle is short of its limit; else the refusal of the side that it is on.
-#[tactic(auto, unfolding(crate::specs::Inverse::past_refusal, crate::specs::Degrees::ninety))]
+#[tactic(auto, using(crate::proofs::OneLeg::one_angle), unfolding(crate::specs::Degrees::ninety))]
 fn admit_angle(angle: f32) -> Result<(), Refusal>
     ensures { number_or_0 result ≡ past_refusal angle }
 {

@@ -2,6 +2,7 @@
 use Rattle.std.specs.Prelude.{◌≡◌, ⊤, ℕ, Bool, true, false, ◌&&◌, [], ◌∷◌, Option, Some, None, Result, Ok, Err}
 use mathlib.Core.Path.{refl, sym, ap, ap₂, ◌∙◌}
 use mathlib.Core.Bool.{and-true, true≢false}
+use native.Mathlib.Omega.{arith}
 use lib.Ieee.{Float, le}
 use Rattle.numbers.specs.Told.{Told, refused, choose, answer}
 use Rattle.numbers.specs.Refusals.{number_of, number_or_0}
@@ -44,15 +45,31 @@ told_behind : (tell : Result (Option Feet) Refusal → Told) → ((r : Refusal) 
 told_behind tell refuses (Ok u) m n e = ap (λ (k : ℕ). answer k (tell (Ok m))) e
 told_behind tell refuses (Err r) m n e = refuses r ∙ turned_back r n (tell (Ok m)) e
 
--- ---- the door: what is permitted is finite, so the tests in the code's order give the lowest number
-numbered : (F P t : Bool) → (P ≡ true → F ≡ true)
-    → number_or_0 {A = ⊤} (choose P (choose t (Ok tt) (Err OutOfTime)) (Err (choose F Outside NotFinite)))
-    ≡ first_of (unless F 1 ∷ unless P 2 ∷ unless t 3 ∷ [])
-numbered true true true h = refl
-numbered true true false h = refl
-numbered true false t h = refl
-numbered false true t h = absurd (true≢false (sym (h refl)))
-numbered false false t h = refl
+-- ---- the door: what is permitted is finite, so the tests in the code's order give the lowest number, and where that is 0 what was made
+-- m is answered where n refuses nothing, else the refusal that n numbers
+record Gated {A : Type 0} (n : ℕ) (m : A) (r : Result A Refusal) : Type 0 where
+  number : number_or_0 r ≡ n
+  made : n ≡ 0 → r ≡ Ok m
+
+-- the door in the code's order of tests
+abbrev door : Bool → Bool → Bool → Result ⊤ Refusal
+door F P t = choose P (choose t (Ok tt) (Err OutOfTime)) (Err (choose F Outside NotFinite))
+
+gate : {A : Type 0} (F P t : Bool) (m : A) → (P ≡ true → F ≡ true)
+    → Gated (first_of (unless F 1 ∷ unless P 2 ∷ unless t 3 ∷ [])) m (behind (door F P t) m)
+gate true true true m h = record { number = refl; made = λ z. refl }
+gate true true false m h = record { number = refl; made = λ z. absurd (omega (arith, z)) }
+gate true false t m h = record { number = refl; made = λ z. absurd (omega (arith, z)) }
+gate false true t m h = absurd (true≢false (sym (h refl)))
+gate false false t m h = record { number = refl; made = λ z. absurd (omega (arith, z)) }
+
+-- so of the door alone
+same_number : (r : Result ⊤ Refusal) → number_or_0 r ≡ number_or_0 (behind {A = ⊤} r tt)
+same_number (Ok u) = refl
+same_number (Err r) = refl
+
+numbered : (F P t : Bool) → (P ≡ true → F ≡ true) → number_or_0 (door F P t) ≡ first_of (unless F 1 ∷ unless P 2 ∷ unless t 3 ∷ [])
+numbered F P t h = same_number (door F P t) ∙ (gate {A = ⊤} F P t tt h).number
 
 -- a test that always passes, in the middle and at the end
 passed : (a b c : Bool) → (a && true && b && c) ≡ (a && b && c)
@@ -105,11 +122,16 @@ admitted_by_distance s =
     ∙ no_third (finite_step s) (permitted_step s)
 
 -- ---- by time, at either pace
+-- the step that is made there
+even_made_lem : {pace : ℕ} (s : PacedStepIterator pace) (g : Step Points)
+    → paced_of s (Ok (reached (course_of s.start s.last s.target) s.lift g)) ≡ Ok (paced_after s g)
+even_made_lem s (Moved p) = refl
+even_made_lem s (Arrived p) = refl
+
 paced_made_lem : {pace : ℕ} (s : PacedStepIterator pace) (g : Step Points)
     → told_next_paced (paced_of s (Ok (reached (course_of s.start s.last s.target) s.lift g)))
     ≡ given_next given_paced_iter (paced_after s g)
-paced_made_lem s (Moved p) = refl
-paced_made_lem s (Arrived p) = refl
+paced_made_lem s g = ap told_next_paced (even_made_lem s g)
 
 pub made_at_even_pace : {pace : ℕ} (s : PacedStepIterator pace) (elapsed : Time)
     → told_next_paced (paced_of s (even_made (course_of s.start s.last s.target) s.period s.lift elapsed)) ≡ next_even_told s elapsed

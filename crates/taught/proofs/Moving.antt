@@ -1,12 +1,13 @@
--- Bytes of a row go 80 places up, or 80 down, or become 0; and what several such moves leave. Assumes nothing.
-use Rattle.std.specs.Prelude.{◌≡◌, ℕ, ◌+◌, ◌-◌, ◌≤◌, List, ◌++◌, length, take, drop}
+-- Bytes of a row go 80 places up, or 80 down, or become 0, at once or one by one; and what several such moves leave. Assumes nothing.
+use Rattle.std.specs.Prelude.{◌≡◌, ℕ, suc, ◌+◌, ◌-◌, ◌<◌, ◌≤◌, List, [], ◌∷◌, ◌++◌, length, get_or, take, drop, set}
 use mathlib.Core.Path.{sym, ap, ◌∙◌, subst}
 use mathlib.Core.List.{append_assoc, append-nil}
+use native.Mathlib.Nat.{suc-add}
 use native.Mathlib.Omega.{arith}
-use lib.ListN.{length-append, length-drop, take-append-drop, drop_of_length-le}
-use lib.ListN.{replicate-append-replicate}
-use lib.Seq.{slice, length-slice, take_at, drop_at, drop-drop}
-use lib.Seq.{length-take-le, drop-append-le, take-append-le, take-take, sets, sets-eq}
+use lib.ListN.{length-append, length-drop, length-replicate, take-append-drop, drop_of_length-le}
+use lib.ListN.{get_or-append, replicate-append-replicate}
+use lib.Seq.{slice, slice_empty, slice-cons, length-slice, set_at, take-suc, take_at, drop_at, drop-cons, drop-drop, append_snoc}
+use lib.Seq.{length-take-le, get_or-take, get_or-drop, get_or-append-add, drop-append-le, take-append-le, take-take, sets, sets-eq}
 use Rattle.std.specs.List.{copy_within}
 use borrow.Rule.Slice.PartMut.{put_mid}
 use Rattle.std.proofs.lemmas.List.{drop-take}
@@ -46,7 +47,44 @@ set_to_0 l part from to h g is =
     ap (λ (m : List ℕ). put_mid from (to - from) l m) (is ∙ ap zeros long)
     ∙ ap (λ (m : List ℕ). take from l ++ (zeros (to - from) ++ m)) (drop-drop (to - from) from l ∙ ap (λ (k : ℕ). drop k l) f)
 
--- ---- down, as a front that has changed and what stands behind it
+-- ---- one at a time: up, the last first
+-- nothing has gone up yet
+pub up_none : (l : List ℕ) (to : ℕ) → l ≡ up l to to
+unfolding up
+up_none l to = sym (ap (λ (m : List ℕ). take (to + 80) l ++ (m ++ drop (to + 80) l)) (slice_empty to l) ∙ take-append-drop (to + 80) l)
+
+get_d_taken : (n : ℕ) (l : List ℕ) (i : ℕ) → i < n → n ≤ length l → (ys : List ℕ) → get_or (take n l ++ ys) i 0 ≡ get_or l i 0
+get_d_taken n l i h k ys =
+    get_or-append (take n l) ys 0 i (subst (λ (m : ℕ). i < m) (sym (length-take-le n l k)) h) ∙ get_or-take n l i 0 h
+
+pub up_step : (l : List ℕ) (to k : ℕ) → k < to → to + 80 ≤ length l
+    → set (up l to (suc k)) (k + 80) (get_or (up l to (suc k)) k 0) ≡ up l to k
+unfolding up
+up_step l to k h g =
+    let rest : List ℕ = slice (suc k) to l ++ drop (to + 80) l in
+    let r : get_or (take (suc k + 80) l ++ rest) k 0 ≡ get_or l k 0 = get_d_taken (suc k + 80) l k (omega arith) (omega arith) rest in
+    let t : take (suc k + 80) l ≡ take (k + 80) l ++ (get_or l (k + 80) 0 ∷ []) =
+    ap (λ (n : ℕ). take n l) (suc-add k 80) ∙ take-suc l (k + 80) 0 (omega arith) in
+    ap (λ (x : ℕ). set (take (suc k + 80) l ++ rest) (k + 80) x) r
+    ∙ ap (λ (m : List ℕ). set (m ++ rest) (k + 80) (get_or l k 0)) t
+    ∙ ap (λ (m : List ℕ). set m (k + 80) (get_or l k 0)) (append_assoc (take (k + 80) l) (get_or l (k + 80) 0 ∷ []) rest)
+    ∙ set_at (take (k + 80) l) (get_or l (k + 80) 0) rest (get_or l k 0) (k + 80) (length-take-le (k + 80) l (omega arith))
+    ∙ ap (λ (m : List ℕ). take (k + 80) l ++ (m ++ drop (to + 80) l)) (sym (slice-cons k to l 0 h (omega arith)))
+
+-- ---- a front that has changed, and what stands behind it: one byte more of the front
+one_more : (front l : List ℕ) (i x : ℕ) → length front ≡ i → i < length l
+    → set (front ++ drop i l) i x ≡ (front ++ (x ∷ [])) ++ drop (suc i) l
+one_more front l i x long h =
+    ap (λ (m : List ℕ). set (front ++ m) i x) (drop-cons l i 0 h)
+    ∙ set_at front (get_or l i 0) (drop (suc i) l) x i long
+    ∙ sym (append_snoc front x (drop (suc i) l))
+
+slice_snoc : (f t : ℕ) (l : List ℕ) → f ≤ t → t < length l → slice f (suc t) l ≡ slice f t l ++ (get_or l t 0 ∷ [])
+slice_snoc f t l h g =
+    ap (drop f) (take-suc l t 0 g)
+    ∙ drop-append-le f (take t l) (get_or l t 0 ∷ []) (subst (λ (n : ℕ). f ≤ n) (sym (length-take-le t l (omega arith))) h)
+
+-- ---- down, the first first, as a front that has changed and what stands behind it
 abbrev front_down : List ℕ → ℕ → ℕ → List ℕ
 front_down l from i = take from l ++ slice (from + 80) (i + 80) l
 
@@ -59,6 +97,51 @@ front_down_long l from i h g =
 down_is : (l : List ℕ) (from i : ℕ) → down l from i ≡ front_down l from i ++ drop i l
 unfolding down
 down_is l from i = sym (append_assoc (take from l) (slice (from + 80) (i + 80) l) (drop i l))
+
+pub down_none : (l : List ℕ) (from : ℕ) → l ≡ down l from from
+unfolding down
+down_none l from = sym (ap (λ (m : List ℕ). take from l ++ (m ++ drop from l)) (slice_empty (from + 80) l) ∙ take-append-drop from l)
+
+pub down_step : (l : List ℕ) (from i : ℕ) → from ≤ i → i + 80 < length l
+    → set (down l from i) i (get_or (down l from i) (i + 80) 0) ≡ down l from (suc i)
+down_step l from i h g =
+    let front = front_down l from i in
+    let long : length front ≡ i = front_down_long l from i h (omega arith) in
+    let byte : get_or (front ++ drop i l) (i + 80) 0 ≡ get_or l (i + 80) 0 =
+    ap (λ (n : ℕ). get_or (front ++ drop i l) (n + 80) 0) (sym long)
+    ∙ get_or-append-add front (drop i l) 80 0
+    ∙ get_or-drop i l 80 0 in
+    let next : (front ++ (get_or l (i + 80) 0 ∷ [])) ≡ front_down l from (suc i) =
+    append_assoc (take from l) (slice (from + 80) (i + 80) l) (get_or l (i + 80) 0 ∷ [])
+    ∙ ap (λ (m : List ℕ). take from l ++ m)
+    (sym (slice_snoc (from + 80) (i + 80) l (omega arith) g) ∙ ap (λ (n : ℕ). slice (from + 80) n l) (sym (suc-add i 80))) in
+    ap (λ (m : List ℕ). set m i (get_or m (i + 80) 0)) (down_is l from i)
+    ∙ ap (λ (x : ℕ). set (front ++ drop i l) i x) byte
+    ∙ one_more front l i (get_or l (i + 80) 0) long (omega arith)
+    ∙ ap (λ (m : List ℕ). m ++ drop (suc i) l) next
+    ∙ sym (down_is l from (suc i))
+
+-- ---- to 0
+pub cleared_none : (l : List ℕ) (from : ℕ) → l ≡ cleared l from from
+unfolding cleared
+cleared_none l from =
+    let none : from - from ≡ 0 = omega arith in
+    sym (ap (λ (n : ℕ). take from l ++ (zeros n ++ drop from l)) none ∙ take-append-drop from l)
+
+pub cleared_step : (l : List ℕ) (from i : ℕ) → from ≤ i → i < length l → set (cleared l from i) i 0 ≡ cleared l from (suc i)
+unfolding cleared
+cleared_step l from i h g =
+    let front : List ℕ = take from l ++ zeros (i - from) in
+    let a : length (take from l) ≡ from = length-take-le from l (omega arith) in
+    let b : length (zeros (i - from)) ≡ i - from = length-replicate (i - from) 0 in
+    let long : length front ≡ i = length-append (take from l) (zeros (i - from)) ∙ (omega (arith, a, b)) in
+    let n : i - from + 1 ≡ suc i - from = omega arith in
+    ap (λ (m : List ℕ). set m i 0) (sym (append_assoc (take from l) (zeros (i - from)) (drop i l)))
+    ∙ one_more front l i 0 long g
+    ∙ ap (λ (m : List ℕ). m ++ drop (suc i) l)
+    (append_assoc (take from l) (zeros (i - from)) (0 ∷ [])
+    ∙ ap (λ (m : List ℕ). take from l ++ m) (replicate-append-replicate (i - from) 1 0 ∙ ap zeros n))
+    ∙ append_assoc (take from l) (zeros (suc i - from)) (drop (suc i) l)
 
 pub all_cleared : (l : List ℕ) (n : ℕ) → length l ≡ n → cleared l 0 n ≡ zeros n
 unfolding cleared
