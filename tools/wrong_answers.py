@@ -127,8 +127,8 @@ Made by tools/wrong_answers.py from `crates/*/must-fail`, where each edit says w
     yield f"""
 ## By entry
 
-Each entry with edits that change its answer, in its own text or in what it calls. `flags` are the fourteen flags of legs, `defaults` the default
-step time, height and distance; {" and ".join(f"`{name}` is {what}" for name, what in PROGRAMS.items())}.
+Each entry with edits that change its answer, in its own text or in what it calls. `flags` are the fourteen flags of legs and
+`flags::named`, `defaults` the default step time, height and distance; {" and ".join(f"`{name}` is {what}" for name, what in PROGRAMS.items())}.
 
 {table("entry", "edits")}"""
     for name in entries:
